@@ -1,0 +1,11 @@
+//! The types of a module as the core specification has them, and `List`, the vector that
+//! contracts see as a list (core specification 3.0, 2.3 Types).
+#![tactic(auto)]
+
+mod list;
+mod types;
+
+pub use list::List;
+pub use types::{
+    Abs, Comp, FieldType, HeapType, RecGroup, RefType, Storage, SubType, TypeList, ValType,
+};
