@@ -1,0 +1,13 @@
+//! The syntax of modules: instructions, bodies and the module tree
+//! (core specification 3.0, chapter 2 Structure).
+#![tactic(auto)]
+
+mod instr;
+pub mod laws;
+mod module;
+
+pub use instr::{BlockType, Body, Catch, Instr, MemArg};
+pub use module::{
+    Desc, Elem, ElemMode, Export, Func, Global, Import, Items, Kind, Limits, Module, Seg, SegMode,
+    Table,
+};
