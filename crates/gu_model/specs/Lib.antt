@@ -1,0 +1,10 @@
+pub mod Index
+pub mod Cut
+pub mod Value
+pub mod Script
+pub mod Run
+pub mod Trace
+pub mod Typing
+pub mod Valid
+pub mod Same
+pub mod Laws
