@@ -1,0 +1,13 @@
+pub mod Bodies
+pub mod Causes
+pub mod Codes
+pub mod CutStep
+pub mod Cutting
+pub mod Instrs
+pub mod Lengths
+pub mod Names
+pub mod Parts
+pub mod Signatures
+pub mod TypedCodes
+pub mod Vectors
+pub mod Whole
