@@ -1,0 +1,10 @@
+pub mod Decodes
+pub mod Types
+pub mod Instructions
+pub mod Expressions
+pub mod Items
+pub mod Segments
+pub mod Sections
+pub mod Modules
+pub mod Least
+pub mod Writing

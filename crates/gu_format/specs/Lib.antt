@@ -1,0 +1,10 @@
+pub mod Parts
+pub mod Types
+pub mod Instructions
+pub mod Code
+pub mod Sections
+pub mod Module
+pub mod Encoding
+pub mod Shape
+pub mod Reading
+pub mod Laws
