@@ -97,7 +97,7 @@ items_spelled P encode A f (x ∷ xs) a room =
     let both = length-append (encode x) (encode_items encode xs) in
     record { front = encode x; back = encode_items encode xs; whole = refl; first = (f x a.0).spells (omega (arith, room, both)); second = items_spelled P encode A f xs a.1 (omega (arith, room, both)) }
 
-items_many : {X : Type 0} (P : X → List ℕ → Type 0) (encode : X → List ℕ) (A : X → Type 0) → ((x : X) → A x → Fine (P x) (encode x)) → (xs : List X) → AllByRecursion A xs → length xs ≤ length (encode_items encode xs)
+pub items_many : {X : Type 0} (P : X → List ℕ → Type 0) (encode : X → List ℕ) (A : X → Type 0) → ((x : X) → A x → Fine (P x) (encode x)) → (xs : List X) → AllByRecursion A xs → length xs ≤ length (encode_items encode xs)
 items_many P encode A f [] a = omega arith
 items_many P encode A f (x ∷ xs) a =
     let more = items_many P encode A f xs a.1 in

@@ -8,3 +8,5 @@ pub mod Sections
 pub mod Modules
 pub mod Least
 pub mod Writing
+pub mod Shaped
+pub mod Narrow

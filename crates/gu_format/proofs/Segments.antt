@@ -100,68 +100,68 @@ KindFuncs funcs text = Begins 0x00 (Funcs funcs) text
 abbrev Exprs : List Body → List ℕ → Type 0
 Exprs = SpellsVector SpellsBody
 
-abbrev P0 : Body × List ℕ → List ℕ → Type 0
-P0 = Both SpellsBody Funcs
+abbrev OffsetFuncs : Body × List ℕ → List ℕ → Type 0
+OffsetFuncs = Both SpellsBody Funcs
 
-abbrev P2 : ℕ × (Body × List ℕ) → List ℕ → Type 0
-P2 = Both SpellsU32 (Both SpellsBody KindFuncs)
+abbrev TableFuncs : ℕ × (Body × List ℕ) → List ℕ → Type 0
+TableFuncs = Both SpellsU32 (Both SpellsBody KindFuncs)
 
-abbrev P4 : Body × List Body → List ℕ → Type 0
-P4 = Both SpellsBody Exprs
+abbrev OffsetExprs : Body × List Body → List ℕ → Type 0
+OffsetExprs = Both SpellsBody Exprs
 
-abbrev P5 : RefType × List Body → List ℕ → Type 0
-P5 = Both SpellsRef Exprs
+abbrev TypedExprs : RefType × List Body → List ℕ → Type 0
+TypedExprs = Both SpellsRef Exprs
 
-abbrev P6 : ℕ × (Body × (RefType × List Body)) → List ℕ → Type 0
-P6 = Both SpellsU32 (Both SpellsBody (Both SpellsRef Exprs))
+abbrev TableExprs : ℕ × (Body × (RefType × List Body)) → List ℕ → Type 0
+TableExprs = Both SpellsU32 (Both SpellsBody (Both SpellsRef Exprs))
 
-abbrev m0 : Body × List ℕ → Elem
-m0 x = record { mode = M.Active 0 x.0; items = L.Funcs x.1 }
+abbrev first_funcs : Body × List ℕ → Elem
+first_funcs x = record { mode = M.Active 0 x.0; items = L.Funcs x.1 }
 
-abbrev m1 : List ℕ → Elem
-m1 x = record { mode = M.Passive; items = L.Funcs x }
+abbrev passive_funcs : List ℕ → Elem
+passive_funcs x = record { mode = M.Passive; items = L.Funcs x }
 
-abbrev m2 : ℕ × (Body × List ℕ) → Elem
-m2 x = record { mode = M.Active x.0 x.1.0; items = L.Funcs x.1.1 }
+abbrev active_funcs_of : ℕ × (Body × List ℕ) → Elem
+active_funcs_of x = record { mode = M.Active x.0 x.1.0; items = L.Funcs x.1.1 }
 
-abbrev m3 : List ℕ → Elem
-m3 x = record { mode = M.Declared; items = L.Funcs x }
+abbrev declared_funcs : List ℕ → Elem
+declared_funcs x = record { mode = M.Declared; items = L.Funcs x }
 
-abbrev m4 : Body × List Body → Elem
-m4 x = record { mode = M.Active 0 x.0; items = L.Exprs funcref x.1 }
+abbrev first_exprs : Body × List Body → Elem
+first_exprs x = record { mode = M.Active 0 x.0; items = L.Exprs funcref x.1 }
 
-abbrev m5 : RefType × List Body → Elem
-m5 x = record { mode = M.Passive; items = L.Exprs x.0 x.1 }
+abbrev passive_exprs : RefType × List Body → Elem
+passive_exprs x = record { mode = M.Passive; items = L.Exprs x.0 x.1 }
 
-abbrev m6 : ℕ × (Body × (RefType × List Body)) → Elem
-m6 x = record { mode = M.Active x.0 x.1.0; items = L.Exprs x.1.1.0 x.1.1.1 }
+abbrev active_exprs_of : ℕ × (Body × (RefType × List Body)) → Elem
+active_exprs_of x = record { mode = M.Active x.0 x.1.0; items = L.Exprs x.1.1.0 x.1.1.1 }
 
-abbrev m7 : RefType × List Body → Elem
-m7 x = record { mode = M.Declared; items = L.Exprs x.0 x.1 }
+abbrev declared_exprs : RefType × List Body → Elem
+declared_exprs x = record { mode = M.Declared; items = L.Exprs x.0 x.1 }
 
-abbrev R7 : ℕ → Elem → List ℕ → Type 0
-R7 = Row 7 (Made P5 m7) NoRow
+abbrev FromForm7 : ℕ → Elem → List ℕ → Type 0
+FromForm7 = Row 7 (Made TypedExprs declared_exprs) NoRow
 
-abbrev R6 : ℕ → Elem → List ℕ → Type 0
-R6 = Row 6 (Made P6 m6) R7
+abbrev FromForm6 : ℕ → Elem → List ℕ → Type 0
+FromForm6 = Row 6 (Made TableExprs active_exprs_of) FromForm7
 
-abbrev R5 : ℕ → Elem → List ℕ → Type 0
-R5 = Row 5 (Made P5 m5) R6
+abbrev FromForm5 : ℕ → Elem → List ℕ → Type 0
+FromForm5 = Row 5 (Made TypedExprs passive_exprs) FromForm6
 
-abbrev R4 : ℕ → Elem → List ℕ → Type 0
-R4 = Row 4 (Made P4 m4) R5
+abbrev FromForm4 : ℕ → Elem → List ℕ → Type 0
+FromForm4 = Row 4 (Made OffsetExprs first_exprs) FromForm5
 
-abbrev R3 : ℕ → Elem → List ℕ → Type 0
-R3 = Row 3 (Made KindFuncs m3) R4
+abbrev FromForm3 : ℕ → Elem → List ℕ → Type 0
+FromForm3 = Row 3 (Made KindFuncs declared_funcs) FromForm4
 
-abbrev R2 : ℕ → Elem → List ℕ → Type 0
-R2 = Row 2 (Made P2 m2) R3
+abbrev FromForm2 : ℕ → Elem → List ℕ → Type 0
+FromForm2 = Row 2 (Made TableFuncs active_funcs_of) FromForm3
 
-abbrev R1 : ℕ → Elem → List ℕ → Type 0
-R1 = Row 1 (Made KindFuncs m1) R2
+abbrev FromForm1 : ℕ → Elem → List ℕ → Type 0
+FromForm1 = Row 1 (Made KindFuncs passive_funcs) FromForm2
 
 unfoldable ElemBy : ℕ → Elem → List ℕ → Type 0
-ElemBy = Row 0 (Made P0 m0) R1
+ElemBy = Row 0 (Made OffsetFuncs first_funcs) FromForm1
 
 funcs_decode : (bound : ℕ) → Decodes bound Funcs funcs_at
 funcs_decode bound = vector_decodes bound SpellsU32 u32_at (u32_decodes bound Number)
@@ -181,14 +181,14 @@ elem_heads bound room fits =
     let exprs = exprs_decode bound room fits in
     let u32 = u32_decodes bound Number in
     let ref = ref_decodes bound in
-    let a0 = made_at m0 (both_at (body_at room) funcs_at) in
-    let a1 = made_at m1 kind_funcs_at in
-    let a2 = made_at m2 (both_at u32_at (both_at (body_at room) kind_funcs_at)) in
-    let a3 = made_at m3 kind_funcs_at in
-    let a4 = made_at m4 (both_at (body_at room) (exprs_at room)) in
-    let a5 = made_at m5 (both_at ref_at (exprs_at room)) in
-    let a6 = made_at m6 (both_at u32_at (both_at (body_at room) (both_at ref_at (exprs_at room)))) in
-    let a7 = made_at m7 (both_at ref_at (exprs_at room)) in
+    let a0 = made_at first_funcs (both_at (body_at room) funcs_at) in
+    let a1 = made_at passive_funcs kind_funcs_at in
+    let a2 = made_at active_funcs_of (both_at u32_at (both_at (body_at room) kind_funcs_at)) in
+    let a3 = made_at declared_funcs kind_funcs_at in
+    let a4 = made_at first_exprs (both_at (body_at room) (exprs_at room)) in
+    let a5 = made_at passive_exprs (both_at ref_at (exprs_at room)) in
+    let a6 = made_at active_exprs_of (both_at u32_at (both_at (body_at room) (both_at ref_at (exprs_at room)))) in
+    let a7 = made_at declared_exprs (both_at ref_at (exprs_at room)) in
     let d8 : ℕ → ℕ → List ℕ → Read Elem = λ left c other. refused Fixed left in
     let d7 : ℕ → ℕ → List ℕ → Read Elem = λ left c. cond (nat_eq c 7) a7 (d8 left c) in
     let d6 : ℕ → ℕ → List ℕ → Read Elem = λ left c. cond (nat_eq c 6) a6 (d7 left c) in
@@ -197,14 +197,14 @@ elem_heads bound room fits =
     let d3 : ℕ → ℕ → List ℕ → Read Elem = λ left c. cond (nat_eq c 3) a3 (d4 left c) in
     let d2 : ℕ → ℕ → List ℕ → Read Elem = λ left c. cond (nat_eq c 2) a2 (d3 left c) in
     let d1 : ℕ → ℕ → List ℕ → Read Elem = λ left c. cond (nat_eq c 1) a1 (d2 left c) in
-    row_heads bound 0 (Made P0 m0) a0 R1 d1 (made_decodes bound P0 (both_at (body_at room) funcs_at) m0 (both_decodes bound SpellsBody Funcs (body_at room) funcs_at body funcs))
-    (row_heads bound 1 (Made KindFuncs m1) a1 R2 d2 (made_decodes bound KindFuncs kind_funcs_at m1 kinds)
-    (row_heads bound 2 (Made P2 m2) a2 R3 d3 (made_decodes bound P2 (both_at u32_at (both_at (body_at room) kind_funcs_at)) m2 (both_decodes bound SpellsU32 (Both SpellsBody KindFuncs) u32_at (both_at (body_at room) kind_funcs_at) u32 (both_decodes bound SpellsBody KindFuncs (body_at room) kind_funcs_at body kinds)))
-    (row_heads bound 3 (Made KindFuncs m3) a3 R4 d4 (made_decodes bound KindFuncs kind_funcs_at m3 kinds)
-    (row_heads bound 4 (Made P4 m4) a4 R5 d5 (made_decodes bound P4 (both_at (body_at room) (exprs_at room)) m4 (both_decodes bound SpellsBody Exprs (body_at room) (exprs_at room) body exprs))
-    (row_heads bound 5 (Made P5 m5) a5 R6 d6 (made_decodes bound P5 (both_at ref_at (exprs_at room)) m5 (both_decodes bound SpellsRef Exprs ref_at (exprs_at room) ref exprs))
-    (row_heads bound 6 (Made P6 m6) a6 R7 d7 (made_decodes bound P6 (both_at u32_at (both_at (body_at room) (both_at ref_at (exprs_at room)))) m6 (both_decodes bound SpellsU32 (Both SpellsBody (Both SpellsRef Exprs)) u32_at (both_at (body_at room) (both_at ref_at (exprs_at room))) u32 (both_decodes bound SpellsBody (Both SpellsRef Exprs) (body_at room) (both_at ref_at (exprs_at room)) body (both_decodes bound SpellsRef Exprs ref_at (exprs_at room) ref exprs))))
-    (row_heads bound 7 (Made P5 m7) a7 NoRow d8 (made_decodes bound P5 (both_at ref_at (exprs_at room)) m7 (both_decodes bound SpellsRef Exprs ref_at (exprs_at room) ref exprs))
+    row_heads bound 0 (Made OffsetFuncs first_funcs) a0 FromForm1 d1 (made_decodes bound OffsetFuncs (both_at (body_at room) funcs_at) first_funcs (both_decodes bound SpellsBody Funcs (body_at room) funcs_at body funcs))
+    (row_heads bound 1 (Made KindFuncs passive_funcs) a1 FromForm2 d2 (made_decodes bound KindFuncs kind_funcs_at passive_funcs kinds)
+    (row_heads bound 2 (Made TableFuncs active_funcs_of) a2 FromForm3 d3 (made_decodes bound TableFuncs (both_at u32_at (both_at (body_at room) kind_funcs_at)) active_funcs_of (both_decodes bound SpellsU32 (Both SpellsBody KindFuncs) u32_at (both_at (body_at room) kind_funcs_at) u32 (both_decodes bound SpellsBody KindFuncs (body_at room) kind_funcs_at body kinds)))
+    (row_heads bound 3 (Made KindFuncs declared_funcs) a3 FromForm4 d4 (made_decodes bound KindFuncs kind_funcs_at declared_funcs kinds)
+    (row_heads bound 4 (Made OffsetExprs first_exprs) a4 FromForm5 d5 (made_decodes bound OffsetExprs (both_at (body_at room) (exprs_at room)) first_exprs (both_decodes bound SpellsBody Exprs (body_at room) (exprs_at room) body exprs))
+    (row_heads bound 5 (Made TypedExprs passive_exprs) a5 FromForm6 d6 (made_decodes bound TypedExprs (both_at ref_at (exprs_at room)) passive_exprs (both_decodes bound SpellsRef Exprs ref_at (exprs_at room) ref exprs))
+    (row_heads bound 6 (Made TableExprs active_exprs_of) a6 FromForm7 d7 (made_decodes bound TableExprs (both_at u32_at (both_at (body_at room) (both_at ref_at (exprs_at room)))) active_exprs_of (both_decodes bound SpellsU32 (Both SpellsBody (Both SpellsRef Exprs)) u32_at (both_at (body_at room) (both_at ref_at (exprs_at room))) u32 (both_decodes bound SpellsBody (Both SpellsRef Exprs) (body_at room) (both_at ref_at (exprs_at room)) body (both_decodes bound SpellsRef Exprs ref_at (exprs_at room) ref exprs))))
+    (row_heads bound 7 (Made TypedExprs declared_exprs) a7 NoRow d8 (made_decodes bound TypedExprs (both_at ref_at (exprs_at room)) declared_exprs (both_decodes bound SpellsRef Exprs ref_at (exprs_at room) ref exprs))
     (no_row_heads Elem bound Fixed))))))))
 
 -- a number that is fixed
@@ -213,14 +213,14 @@ numbered n m Q front back text whole u is h = record { front = front; back = bac
 
 elem_to_by : (n : ℕ) (x : Elem) (front back text : List ℕ) → text ≡ front ++ back → SpellsU32 n front → ElemBy n x back → SpellsElem x text
 unfolding ElemBy Row NoRow
-elem_to_by n x front back text whole u (inl h) = let P : Elem → Type 0 = λ y. SpellsElem y text in subst P h.1.makes (inl (refl, numbered n 0 (P0 h.1.value) front back text whole u h.0 h.1.spelled))
+elem_to_by n x front back text whole u (inl h) = let P : Elem → Type 0 = λ y. SpellsElem y text in subst P h.1.makes (inl (refl, numbered n 0 (OffsetFuncs h.1.value) front back text whole u h.0 h.1.spelled))
 elem_to_by n x front back text whole u (inr (i0, inl h)) = let P : Elem → Type 0 = λ y. SpellsElem y text in subst P h.1.makes (numbered n 1 (KindFuncs h.1.value) front back text whole u h.0 h.1.spelled)
-elem_to_by n x front back text whole u (inr (i0, inr (i1, inl h))) = let P : Elem → Type 0 = λ y. SpellsElem y text in subst P h.1.makes (inr (numbered n 2 (P2 h.1.value) front back text whole u h.0 h.1.spelled))
+elem_to_by n x front back text whole u (inr (i0, inr (i1, inl h))) = let P : Elem → Type 0 = λ y. SpellsElem y text in subst P h.1.makes (inr (numbered n 2 (TableFuncs h.1.value) front back text whole u h.0 h.1.spelled))
 elem_to_by n x front back text whole u (inr (i0, inr (i1, inr (i2, inl h)))) = let P : Elem → Type 0 = λ y. SpellsElem y text in subst P h.1.makes (numbered n 3 (KindFuncs h.1.value) front back text whole u h.0 h.1.spelled)
-elem_to_by n x front back text whole u (inr (i0, inr (i1, inr (i2, inr (i3, inl h))))) = let P : Elem → Type 0 = λ y. SpellsElem y text in subst P h.1.makes (inl (refl, refl, numbered n 4 (P4 h.1.value) front back text whole u h.0 h.1.spelled))
-elem_to_by n x front back text whole u (inr (i0, inr (i1, inr (i2, inr (i3, inr (i4, inl h)))))) = let P : Elem → Type 0 = λ y. SpellsElem y text in subst P h.1.makes (numbered n 5 (P5 h.1.value) front back text whole u h.0 h.1.spelled)
-elem_to_by n x front back text whole u (inr (i0, inr (i1, inr (i2, inr (i3, inr (i4, inr (i5, inl h))))))) = let P : Elem → Type 0 = λ y. SpellsElem y text in subst P h.1.makes (inr (numbered n 6 (P6 h.1.value) front back text whole u h.0 h.1.spelled))
-elem_to_by n x front back text whole u (inr (i0, inr (i1, inr (i2, inr (i3, inr (i4, inr (i5, inr (i6, inl h)))))))) = let P : Elem → Type 0 = λ y. SpellsElem y text in subst P h.1.makes (numbered n 7 (P5 h.1.value) front back text whole u h.0 h.1.spelled)
+elem_to_by n x front back text whole u (inr (i0, inr (i1, inr (i2, inr (i3, inl h))))) = let P : Elem → Type 0 = λ y. SpellsElem y text in subst P h.1.makes (inl (refl, refl, numbered n 4 (OffsetExprs h.1.value) front back text whole u h.0 h.1.spelled))
+elem_to_by n x front back text whole u (inr (i0, inr (i1, inr (i2, inr (i3, inr (i4, inl h)))))) = let P : Elem → Type 0 = λ y. SpellsElem y text in subst P h.1.makes (numbered n 5 (TypedExprs h.1.value) front back text whole u h.0 h.1.spelled)
+elem_to_by n x front back text whole u (inr (i0, inr (i1, inr (i2, inr (i3, inr (i4, inr (i5, inl h))))))) = let P : Elem → Type 0 = λ y. SpellsElem y text in subst P h.1.makes (inr (numbered n 6 (TableExprs h.1.value) front back text whole u h.0 h.1.spelled))
+elem_to_by n x front back text whole u (inr (i0, inr (i1, inr (i2, inr (i3, inr (i4, inr (i5, inr (i6, inl h)))))))) = let P : Elem → Type 0 = λ y. SpellsElem y text in subst P h.1.makes (numbered n 7 (TypedExprs h.1.value) front back text whole u h.0 h.1.spelled)
 elem_to_by n x front back text whole u (inr (i0, inr (i1, inr (i2, inr (i3, inr (i4, inr (i5, inr (i6, inr (i7, h))))))))) = absurd h
 
 elem_to : (x : Elem) (text : List ℕ) → NumberedBy ElemBy x text → SpellsElem x text
@@ -232,29 +232,29 @@ by_number : {X : Type 0} (R : ℕ → X → List ℕ → Type 0) (n : ℕ) (x : 
 unfolding NumberedBy
 by_number R n x Q text f h = (n, record { front = h.front; back = h.back; whole = h.whole; first = h.first; second = f h.back h.second })
 
-active_funcs : (table : ℕ) (offset : Body) (funcs : List ℕ) (text : List ℕ) → SpellsElemAs (M.Active table offset) (L.Funcs funcs) text → NumberedBy ElemBy (m2 (table, (offset, funcs))) text
+active_funcs : (table : ℕ) (offset : Body) (funcs : List ℕ) (text : List ℕ) → SpellsElemAs (M.Active table offset) (L.Funcs funcs) text → NumberedBy ElemBy (active_funcs_of (table, (offset, funcs))) text
 unfolding ElemBy Row
 active_funcs table offset funcs text (inl h) =
-    let P : ℕ → Type 0 = λ n. NumberedBy ElemBy (m2 (n, (offset, funcs))) text in
-    subst P (sym h.0) (by_number ElemBy 0 (m0 (offset, funcs)) (P0 (offset, funcs)) text (λ back q. inl (refl, record { value = (offset, funcs); makes = refl; spelled = q })) h.1)
-active_funcs table offset funcs text (inr h) = by_number ElemBy 2 (m2 (table, (offset, funcs))) (P2 (table, (offset, funcs))) text (λ back q. inr (refl, inr (refl, inl (refl, record { value = (table, (offset, funcs)); makes = refl; spelled = q })))) h
+    let P : ℕ → Type 0 = λ n. NumberedBy ElemBy (active_funcs_of (n, (offset, funcs))) text in
+    subst P (sym h.0) (by_number ElemBy 0 (first_funcs (offset, funcs)) (OffsetFuncs (offset, funcs)) text (λ back q. inl (refl, record { value = (offset, funcs); makes = refl; spelled = q })) h.1)
+active_funcs table offset funcs text (inr h) = by_number ElemBy 2 (active_funcs_of (table, (offset, funcs))) (TableFuncs (table, (offset, funcs))) text (λ back q. inr (refl, inr (refl, inl (refl, record { value = (table, (offset, funcs)); makes = refl; spelled = q })))) h
 
-active_exprs : (table : ℕ) (offset : Body) (ty : RefType) (exprs : List Body) (text : List ℕ) → SpellsElemAs (M.Active table offset) (L.Exprs ty exprs) text → NumberedBy ElemBy (m6 (table, (offset, (ty, exprs)))) text
+active_exprs : (table : ℕ) (offset : Body) (ty : RefType) (exprs : List Body) (text : List ℕ) → SpellsElemAs (M.Active table offset) (L.Exprs ty exprs) text → NumberedBy ElemBy (active_exprs_of (table, (offset, (ty, exprs)))) text
 unfolding ElemBy Row
 active_exprs table offset ty exprs text (inl h) =
-    let P : ℕ → Type 0 = λ n. NumberedBy ElemBy (m6 (n, (offset, (ty, exprs)))) text in
-    let Q : RefType → Type 0 = λ r. NumberedBy ElemBy (m6 (0, (offset, (r, exprs)))) text in
-    subst P (sym h.0) (subst Q (sym h.1) (by_number ElemBy 4 (m4 (offset, exprs)) (P4 (offset, exprs)) text (λ back q. inr (refl, inr (refl, inr (refl, inr (refl, inl (refl, record { value = (offset, exprs); makes = refl; spelled = q })))))) h.2))
-active_exprs table offset ty exprs text (inr h) = by_number ElemBy 6 (m6 (table, (offset, (ty, exprs)))) (P6 (table, (offset, (ty, exprs)))) text (λ back q. inr (refl, inr (refl, inr (refl, inr (refl, inr (refl, inr (refl, inl (refl, record { value = (table, (offset, (ty, exprs))); makes = refl; spelled = q })))))))) h
+    let P : ℕ → Type 0 = λ n. NumberedBy ElemBy (active_exprs_of (n, (offset, (ty, exprs)))) text in
+    let Q : RefType → Type 0 = λ r. NumberedBy ElemBy (active_exprs_of (0, (offset, (r, exprs)))) text in
+    subst P (sym h.0) (subst Q (sym h.1) (by_number ElemBy 4 (first_exprs (offset, exprs)) (OffsetExprs (offset, exprs)) text (λ back q. inr (refl, inr (refl, inr (refl, inr (refl, inl (refl, record { value = (offset, exprs); makes = refl; spelled = q })))))) h.2))
+active_exprs table offset ty exprs text (inr h) = by_number ElemBy 6 (active_exprs_of (table, (offset, (ty, exprs)))) (TableExprs (table, (offset, (ty, exprs)))) text (λ back q. inr (refl, inr (refl, inr (refl, inr (refl, inr (refl, inr (refl, inl (refl, record { value = (table, (offset, (ty, exprs))); makes = refl; spelled = q })))))))) h
 
 elem_back_as : (mode : ElemMode) (items : Items) (text : List ℕ) → SpellsElemAs mode items text → NumberedBy ElemBy (record { mode = mode; items = items }) text
 unfolding ElemBy Row
 elem_back_as (M.Active table offset) (L.Funcs funcs) text h = active_funcs table offset funcs text h
-elem_back_as M.Passive (L.Funcs funcs) text h = by_number ElemBy 1 (m1 funcs) (KindFuncs funcs) text (λ back q. inr (refl, inl (refl, record { value = funcs; makes = refl; spelled = q }))) h
-elem_back_as M.Declared (L.Funcs funcs) text h = by_number ElemBy 3 (m3 funcs) (KindFuncs funcs) text (λ back q. inr (refl, inr (refl, inr (refl, inl (refl, record { value = funcs; makes = refl; spelled = q }))))) h
+elem_back_as M.Passive (L.Funcs funcs) text h = by_number ElemBy 1 (passive_funcs funcs) (KindFuncs funcs) text (λ back q. inr (refl, inl (refl, record { value = funcs; makes = refl; spelled = q }))) h
+elem_back_as M.Declared (L.Funcs funcs) text h = by_number ElemBy 3 (declared_funcs funcs) (KindFuncs funcs) text (λ back q. inr (refl, inr (refl, inr (refl, inl (refl, record { value = funcs; makes = refl; spelled = q }))))) h
 elem_back_as (M.Active table offset) (L.Exprs ty exprs) text h = active_exprs table offset ty exprs text h
-elem_back_as M.Passive (L.Exprs ty exprs) text h = by_number ElemBy 5 (m5 (ty, exprs)) (P5 (ty, exprs)) text (λ back q. inr (refl, inr (refl, inr (refl, inr (refl, inr (refl, inl (refl, record { value = (ty, exprs); makes = refl; spelled = q }))))))) h
-elem_back_as M.Declared (L.Exprs ty exprs) text h = by_number ElemBy 7 (m7 (ty, exprs)) (P5 (ty, exprs)) text (λ back q. inr (refl, inr (refl, inr (refl, inr (refl, inr (refl, inr (refl, inr (refl, inl (refl, record { value = (ty, exprs); makes = refl; spelled = q }))))))))) h
+elem_back_as M.Passive (L.Exprs ty exprs) text h = by_number ElemBy 5 (passive_exprs (ty, exprs)) (TypedExprs (ty, exprs)) text (λ back q. inr (refl, inr (refl, inr (refl, inr (refl, inr (refl, inl (refl, record { value = (ty, exprs); makes = refl; spelled = q }))))))) h
+elem_back_as M.Declared (L.Exprs ty exprs) text h = by_number ElemBy 7 (declared_exprs (ty, exprs)) (TypedExprs (ty, exprs)) text (λ back q. inr (refl, inr (refl, inr (refl, inr (refl, inr (refl, inr (refl, inr (refl, inl (refl, record { value = (ty, exprs); makes = refl; spelled = q }))))))))) h
 
 pub elem_decodes : (bound room : ℕ) → bound ≤ room → Decodes bound SpellsElem (elem_at room)
 elem_decodes bound room fits = decodes_as bound (NumberedBy ElemBy) SpellsElem (elem_at room) elem_to (λ x text h. elem_back_as x.mode x.items text h) (numbered_decodes bound Fixed ElemBy (rows_at Fixed (elem_rows room)) (elem_heads bound room fits))
@@ -284,51 +284,51 @@ vector_back bytes text h = record { front = h.front; back = h.back; whole = h.wh
 data_decode : (bound : ℕ) → Decodes bound Vector bytes_at
 data_decode bound = decodes_as bound SpellsBytes Vector bytes_at vector_to vector_back (bytes_decodes bound)
 
-abbrev S0 : Body × List ℕ → List ℕ → Type 0
-S0 = Both SpellsBody Vector
+abbrev OffsetBytes : Body × List ℕ → List ℕ → Type 0
+OffsetBytes = Both SpellsBody Vector
 
-abbrev S2 : ℕ × (Body × List ℕ) → List ℕ → Type 0
-S2 = Both SpellsU32 (Both SpellsBody Vector)
+abbrev MemoryBytes : ℕ × (Body × List ℕ) → List ℕ → Type 0
+MemoryBytes = Both SpellsU32 (Both SpellsBody Vector)
 
-abbrev s0 : Body × List ℕ → Seg
-s0 x = record { mode = G.Active 0 x.0; bytes = x.1 }
+abbrev first_bytes : Body × List ℕ → Seg
+first_bytes x = record { mode = G.Active 0 x.0; bytes = x.1 }
 
-abbrev s1 : List ℕ → Seg
-s1 x = record { mode = G.Passive; bytes = x }
+abbrev passive_bytes : List ℕ → Seg
+passive_bytes x = record { mode = G.Passive; bytes = x }
 
-abbrev s2 : ℕ × (Body × List ℕ) → Seg
-s2 x = record { mode = G.Active x.0 x.1.0; bytes = x.1.1 }
+abbrev active_bytes : ℕ × (Body × List ℕ) → Seg
+active_bytes x = record { mode = G.Active x.0 x.1.0; bytes = x.1.1 }
 
-abbrev T2 : ℕ → Seg → List ℕ → Type 0
-T2 = Row 2 (Made S2 s2) NoRow
+abbrev FromSegForm2 : ℕ → Seg → List ℕ → Type 0
+FromSegForm2 = Row 2 (Made MemoryBytes active_bytes) NoRow
 
-abbrev T1 : ℕ → Seg → List ℕ → Type 0
-T1 = Row 1 (Made Vector s1) T2
+abbrev FromSegForm1 : ℕ → Seg → List ℕ → Type 0
+FromSegForm1 = Row 1 (Made Vector passive_bytes) FromSegForm2
 
 unfoldable SegBy : ℕ → Seg → List ℕ → Type 0
-SegBy = Row 0 (Made S0 s0) T1
+SegBy = Row 0 (Made OffsetBytes first_bytes) FromSegForm1
 
 seg_heads : (bound room : ℕ) → bound ≤ room → Heads bound SegBy (rows_at Fixed (seg_rows room))
 unfolding SegBy
 seg_heads bound room fits =
     let body = body_decodes bound room fits in
     let bytes = data_decode bound in
-    let a0 = made_at s0 (both_at (body_at room) bytes_at) in
-    let a1 = made_at s1 bytes_at in
-    let a2 = made_at s2 (both_at u32_at (both_at (body_at room) bytes_at)) in
+    let a0 = made_at first_bytes (both_at (body_at room) bytes_at) in
+    let a1 = made_at passive_bytes bytes_at in
+    let a2 = made_at active_bytes (both_at u32_at (both_at (body_at room) bytes_at)) in
     let d3 : ℕ → ℕ → List ℕ → Read Seg = λ left c other. refused Fixed left in
     let d2 : ℕ → ℕ → List ℕ → Read Seg = λ left c. cond (nat_eq c 2) a2 (d3 left c) in
     let d1 : ℕ → ℕ → List ℕ → Read Seg = λ left c. cond (nat_eq c 1) a1 (d2 left c) in
-    row_heads bound 0 (Made S0 s0) a0 T1 d1 (made_decodes bound S0 (both_at (body_at room) bytes_at) s0 (both_decodes bound SpellsBody Vector (body_at room) bytes_at body bytes))
-    (row_heads bound 1 (Made Vector s1) a1 T2 d2 (made_decodes bound Vector bytes_at s1 bytes)
-    (row_heads bound 2 (Made S2 s2) a2 NoRow d3 (made_decodes bound S2 (both_at u32_at (both_at (body_at room) bytes_at)) s2 (both_decodes bound SpellsU32 (Both SpellsBody Vector) u32_at (both_at (body_at room) bytes_at) (u32_decodes bound Number) (both_decodes bound SpellsBody Vector (body_at room) bytes_at body bytes)))
+    row_heads bound 0 (Made OffsetBytes first_bytes) a0 FromSegForm1 d1 (made_decodes bound OffsetBytes (both_at (body_at room) bytes_at) first_bytes (both_decodes bound SpellsBody Vector (body_at room) bytes_at body bytes))
+    (row_heads bound 1 (Made Vector passive_bytes) a1 FromSegForm2 d2 (made_decodes bound Vector bytes_at passive_bytes bytes)
+    (row_heads bound 2 (Made MemoryBytes active_bytes) a2 NoRow d3 (made_decodes bound MemoryBytes (both_at u32_at (both_at (body_at room) bytes_at)) active_bytes (both_decodes bound SpellsU32 (Both SpellsBody Vector) u32_at (both_at (body_at room) bytes_at) (u32_decodes bound Number) (both_decodes bound SpellsBody Vector (body_at room) bytes_at body bytes)))
     (no_row_heads Seg bound Fixed)))
 
 seg_to_by : (n : ℕ) (x : Seg) (front back text : List ℕ) → text ≡ front ++ back → SpellsU32 n front → SegBy n x back → SpellsSeg x text
 unfolding SegBy Row NoRow
-seg_to_by n x front back text whole u (inl h) = let P : Seg → Type 0 = λ y. SpellsSeg y text in subst P h.1.makes (inl (refl, numbered n 0 (S0 h.1.value) front back text whole u h.0 h.1.spelled))
+seg_to_by n x front back text whole u (inl h) = let P : Seg → Type 0 = λ y. SpellsSeg y text in subst P h.1.makes (inl (refl, numbered n 0 (OffsetBytes h.1.value) front back text whole u h.0 h.1.spelled))
 seg_to_by n x front back text whole u (inr (i0, inl h)) = let P : Seg → Type 0 = λ y. SpellsSeg y text in subst P h.1.makes (numbered n 1 (Vector h.1.value) front back text whole u h.0 h.1.spelled)
-seg_to_by n x front back text whole u (inr (i0, inr (i1, inl h))) = let P : Seg → Type 0 = λ y. SpellsSeg y text in subst P h.1.makes (inr (numbered n 2 (S2 h.1.value) front back text whole u h.0 h.1.spelled))
+seg_to_by n x front back text whole u (inr (i0, inr (i1, inl h))) = let P : Seg → Type 0 = λ y. SpellsSeg y text in subst P h.1.makes (inr (numbered n 2 (MemoryBytes h.1.value) front back text whole u h.0 h.1.spelled))
 seg_to_by n x front back text whole u (inr (i0, inr (i1, inr (i2, h)))) = absurd h
 
 seg_to : (x : Seg) (text : List ℕ) → NumberedBy SegBy x text → SpellsSeg x text
@@ -338,10 +338,10 @@ seg_to x text h = seg_to_by h.0 x h.1.front h.1.back text h.1.whole h.1.first h.
 seg_back_as : (mode : SegMode) (bytes text : List ℕ) → SpellsSegAs mode bytes text → NumberedBy SegBy (record { mode = mode; bytes = bytes }) text
 unfolding SegBy Row
 seg_back_as (G.Active memory offset) bytes text (inl h) =
-    let P : ℕ → Type 0 = λ n. NumberedBy SegBy (s2 (n, (offset, bytes))) text in
-    subst P (sym h.0) (by_number SegBy 0 (s0 (offset, bytes)) (S0 (offset, bytes)) text (λ back q. inl (refl, record { value = (offset, bytes); makes = refl; spelled = q })) h.1)
-seg_back_as (G.Active memory offset) bytes text (inr h) = by_number SegBy 2 (s2 (memory, (offset, bytes))) (S2 (memory, (offset, bytes))) text (λ back q. inr (refl, inr (refl, inl (refl, record { value = (memory, (offset, bytes)); makes = refl; spelled = q })))) h
-seg_back_as G.Passive bytes text h = by_number SegBy 1 (s1 bytes) (Vector bytes) text (λ back q. inr (refl, inl (refl, record { value = bytes; makes = refl; spelled = q }))) h
+    let P : ℕ → Type 0 = λ n. NumberedBy SegBy (active_bytes (n, (offset, bytes))) text in
+    subst P (sym h.0) (by_number SegBy 0 (first_bytes (offset, bytes)) (OffsetBytes (offset, bytes)) text (λ back q. inl (refl, record { value = (offset, bytes); makes = refl; spelled = q })) h.1)
+seg_back_as (G.Active memory offset) bytes text (inr h) = by_number SegBy 2 (active_bytes (memory, (offset, bytes))) (MemoryBytes (memory, (offset, bytes))) text (λ back q. inr (refl, inr (refl, inl (refl, record { value = (memory, (offset, bytes)); makes = refl; spelled = q })))) h
+seg_back_as G.Passive bytes text h = by_number SegBy 1 (passive_bytes bytes) (Vector bytes) text (λ back q. inr (refl, inl (refl, record { value = bytes; makes = refl; spelled = q }))) h
 
 pub seg_decodes : (bound room : ℕ) → bound ≤ room → Decodes bound SpellsSeg (seg_at room)
 seg_decodes bound room fits = decodes_as bound (NumberedBy SegBy) SpellsSeg (seg_at room) seg_to (λ x text h. seg_back_as x.mode x.bytes text h) (numbered_decodes bound Fixed SegBy (rows_at Fixed (seg_rows room)) (seg_heads bound room fits))

@@ -39,7 +39,7 @@ use Rattle.gu_format.specs.Module.{SpellsSection, SpellsList, counted, SpellsSeg
 use Rattle.gu_format.specs.Encoding.{encode_ref, encode_val, encode_mutable, encode_group, encode_limits, encode_body, encode_run, encode_func, encode_desc, encode_import, encode_table_as, encode_table, encode_tag, encode_global, encode_export, is_funcref, encode_elem_as, encode_elem, encode_seg_as, encode_seg, encode_start, encode_count, encoding}
 use Rattle.gu_format.specs.Shape.{IfSome, IsShapedRef, IsShapedGroup, IsShapedLimits, IsShapedBody, IsShapedRun, IsShapedFunc, IsShapedDesc, IsShapedImport, IsShapedTable, IsShapedGlobal, IsShapedExport, IsShapedElemMode, IsShapedItems, IsShapedElem, IsShapedSegMode, IsShapedSeg, IsPlain}
 use Rattle.gu_syntax.proofs.Decodes.{is_eq}
-use Rattle.gu_format.proofs.Least.{most, Fine, fine_as, fine_parts, fine_begins, fine_u32, fine_numbered, fine_vector, fine_sized, fine_indices, ref_fine, val_fine, mutable_fine, group_fine, limits_fine, body_fine, count_long}
+use Rattle.gu_format.proofs.Least.{most, Fine, fine_as, fine_parts, fine_begins, fine_u32, fine_numbered, fine_vector, fine_sized, fine_indices, ref_fine, val_fine, mutable_fine, group_fine, limits_fine, body_fine, count_long, items_many}
 use Rattle.gu_format.proofs.Segments.{bytes_items}
 
 -- bytes and names
@@ -230,13 +230,6 @@ start_spelled (Some func) h room = present 8 None SpellsSome (Some func) (least_
 count_spelled : (has : Bool) (n : ℕ) → FitsU32 n → length (encode_count has n) ≤ most → SpellsSection 12 None SpellsSome (counted has n) (encode_count has n)
 count_spelled false n h room = inl (refl, refl)
 count_spelled true n h room = present 12 None SpellsSome (Some n) (least_unsigned n) (fine_u32 n h).spells room
-
-items_many : {X : Type 0} (P : X → List ℕ → Type 0) (encode : X → List ℕ) (A : X → Type 0) → ((x : X) → A x → Fine (P x) (encode x)) → (xs : List X) → AllByRecursion A xs → length xs ≤ length (encode_items encode xs)
-items_many P encode A f [] a = omega arith
-items_many P encode A f (x ∷ xs) a =
-    let more = items_many P encode A f xs a.1 in
-    let one = (f x a.0).long in
-    omega (arith, one, more, length-append (encode x) (encode_items encode xs))
 
 -- a section has more bytes than items
 section_many : {X : Type 0} (id : ℕ) (P : X → List ℕ → Type 0) (encode : X → List ℕ) (A : X → Type 0) → ((x : X) → A x → Fine (P x) (encode x)) → (xs : List X) → AllByRecursion A xs → length xs ≤ length (section id encode xs)

@@ -1,9 +1,13 @@
 -- What holds of every text and every module of the whole format.
-use Rattle.std.specs.Prelude.{ℕ, ◌≡◌, List}
+use Rattle.std.specs.Prelude.{ℕ, suc, ◌≤◌, ◌≡◌, List, [], length}
+use Rattle.std.specs.List.{AllByRecursion}
+use Rattle.gu_syntax.specs.Encoding.{FitsU32}
 use Rattle.gu_format.specs.Module.{Spells}
 use Rattle.gu_format.specs.Encoding.{encoding}
-use Rattle.gu_format.specs.Shape.{IsPlain}
-use Rattle.gu_format.specs.Reading.{module_at, got}
+use Rattle.gu_format.specs.Shape.{IsShaped, IsPlain}
+use Rattle.gu_format.specs.Reading.{Fault, FlatOpcode, module_at, got, stops}
+use Rattle.gu_format.specs.Due.{IsMalformed, IsOutside}
+use Rattle.gu_syntax.specs.declared.module.Func.{Func}
 use Rattle.gu_syntax.specs.declared.module.Module.{Module}
 
 -- a text spells at most one module
@@ -14,6 +18,33 @@ OneModule = (text : List ℕ) (m n : Module) → Spells text m → Spells text n
 abbrev pub EncodingSpells : Type 0
 EncodingSpells = (m : Module) → IsPlain m → Spells (encoding m) m
 
--- a module is read from a text that spells it, where its blocks are not too deep
+-- the merged runs of a function's locals have lengths that the tree can hold
+abbrev pub RunsFit : Func → Type 0
+RunsFit func = AllByRecursion (λ run. FitsU32 run.0) func.locals
+
+-- what is spelled is shaped, where the tree can hold its numbers: only runs of locals can grow past what is spelled
+abbrev pub SpelledIsShaped : Type 0
+SpelledIsShaped = (text : List ℕ) (m : Module) → Spells text m → AllByRecursion RunsFit m.funcs → IsShaped m
+
+-- a module is read from a text that spells it, where as many blocks may be open as the text has bytes
+abbrev pub ModuleAgain : Type 0
+ModuleAgain = (text : List ℕ) (m : Module) → Spells text m → module_at (suc (length text)) text ≡ got m []
+
+-- what is read is spelled by the whole text, however many blocks may be open
 abbrev pub ModuleTaken : Type 0
 ModuleTaken = (room : ℕ) (text rest : List ℕ) (m : Module) → module_at room text ≡ got m rest → Spells text m
+
+-- where reading stops lies in the text
+abbrev pub StopsInside : Type 0
+StopsInside = (room : ℕ) (text : List ℕ) (fault : Fault) → module_at room text ≡ stops fault → fault.left ≤ length text
+
+-- where a text is refused it spells no module, but that its blocks may be too deep
+abbrev pub RefusedIsUnspelled : Type 0
+RefusedIsUnspelled = (room : ℕ) (text : List ℕ) (m : Module) (fault : Fault) → module_at room text ≡ stops fault → Spells text m → fault.item ≡ FlatOpcode
+
+-- where a text is malformed or has a code that is left out it spells no module
+abbrev pub MalformedIsUnspelled : Type 0
+MalformedIsUnspelled = (text : List ℕ) (place : ℕ) (m : Module) → IsMalformed text place → Spells text m → ⊥
+
+abbrev pub OutsideIsUnspelled : Type 0
+OutsideIsUnspelled = (text : List ℕ) (place code : ℕ) (m : Module) → IsOutside text place code → Spells text m → ⊥

@@ -7,4 +7,5 @@ pub mod Module
 pub mod Encoding
 pub mod Shape
 pub mod Reading
+pub mod Due
 pub mod Laws

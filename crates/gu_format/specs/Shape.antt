@@ -1,4 +1,4 @@
--- Which modules have a text: names are UTF-8, runs of locals are merged, and every number is one that its place in the
+-- Which modules are shaped: names are UTF-8, runs of locals are merged, and every number is one that its place in the
 -- binary format can hold (core specification 3.0, chapter 5 Binary Format).
 use Rattle.std.specs.Prelude.{ℕ, ◌≤◌, ◌<◌, ◌≡◌, Option, Some, None, length}
 use Rattle.std.specs.List.{AllByRecursion}

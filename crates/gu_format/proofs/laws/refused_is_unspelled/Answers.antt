@@ -1,0 +1,5 @@
+use Rattle.gu_format.proofs.Narrow.{refused_unspelled, malformed_unspelled, outside_unspelled}
+use Rattle.gu_format.proofs.laws.refused_is_unspelled.Goals as goal
+
+pub returns : goal.returns
+returns c = record { refused = refused_unspelled; malformed = malformed_unspelled; outside = outside_unspelled }
