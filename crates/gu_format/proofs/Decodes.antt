@@ -468,7 +468,7 @@ vector_decodes bound P item d = decodes_then bound (SpellsVector P) SpellsU32 (I
 unfoldable pub Content : {X : Type 0} → (X → List ℕ → Type 0) → ℕ → X → List ℕ → Type 0
 Content P size x front = (length front ≡ size) × P x front
 
-whole_got : {X : Type 0} (behind : List ℕ) (r : Read X) (x : X) (rest : List ℕ) → whole behind r ≡ got x rest → (r ≡ got x []) × (behind ≡ rest)
+pub whole_got : {X : Type 0} (behind : List ℕ) (r : Read X) (x : X) (rest : List ℕ) → whole behind r ≡ got x rest → (r ≡ got x []) × (behind ≡ rest)
 whole_got behind (got y []) x rest h = (ap (λ z. got z []) (value_is y x behind rest h), rest_is y x behind rest h)
 whole_got behind (got y (b ∷ more)) x rest h = absurd (refused-got End (length (b ∷ more) + length behind) x rest h)
 whole_got behind (stops k) x rest h = absurd (stops-got x rest (before behind k) h)

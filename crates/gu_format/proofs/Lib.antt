@@ -10,3 +10,4 @@ pub mod Least
 pub mod Writing
 pub mod Shaped
 pub mod Narrow
+pub mod Shallow

@@ -344,7 +344,7 @@ none_there code [] h = let f : ⊥ = cc in f
 none_there code (b ∷ text) h = let f : ⊥ = cc in f
 
 -- with more room, what is read is read again
-wide : (room more : ℕ) → room ≤ more → (text rest : List ℕ) (m : Module) → module_at room text ≡ got m rest → module_at more text ≡ got m rest
+pub wide : (room more : ℕ) → room ≤ more → (text rest : List ℕ) (m : Module) → module_at room text ≡ got m rest → module_at more text ≡ got m rest
 wide room more fits text rest m h = wide_of (module_at room text) (module_at more text) m rest (module_narrow room more fits text) h
 
 pub refused_unspelled : (room : ℕ) (text : List ℕ) (m : Module) (fault : Fault) → module_at room text ≡ stops fault → Spells text m → fault.item ≡ FlatOpcode

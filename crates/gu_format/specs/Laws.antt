@@ -6,7 +6,8 @@ use Rattle.gu_format.specs.Module.{Spells}
 use Rattle.gu_format.specs.Encoding.{encoding}
 use Rattle.gu_format.specs.Shape.{IsShaped, IsPlain}
 use Rattle.gu_format.specs.Reading.{Fault, FlatOpcode, module_at, got, stops}
-use Rattle.gu_format.specs.Due.{IsMalformed, IsOutside}
+use Rattle.gu_format.specs.Due.{IsMalformed, IsOutside, NestsTooDeep}
+use Rattle.gu_format.specs.Nesting.{IsShallow}
 use Rattle.gu_syntax.specs.declared.module.Func.{Func}
 use Rattle.gu_syntax.specs.declared.module.Module.{Module}
 
@@ -48,3 +49,11 @@ MalformedIsUnspelled = (text : List ℕ) (place : ℕ) (m : Module) → IsMalfor
 
 abbrev pub OutsideIsUnspelled : Type 0
 OutsideIsUnspelled = (text : List ℕ) (place code : ℕ) (m : Module) → IsOutside text place code → Spells text m → ⊥
+
+-- a module that is spelled is read where as many blocks may be open as it needs
+abbrev pub ShallowIsRead : Type 0
+ShallowIsRead = (room : ℕ) (text : List ℕ) (m : Module) → Spells text m → IsShallow room m → module_at room text ≡ got m []
+
+-- where a block is opened too deep the text spells no module that nests at most 1,000 deep
+abbrev pub DeepIsUnspelled : Type 0
+DeepIsUnspelled = (text : List ℕ) (place : ℕ) (m : Module) → NestsTooDeep text place → Spells text m → IsShallow 1000 m → ⊥

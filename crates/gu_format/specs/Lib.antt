@@ -8,4 +8,5 @@ pub mod Encoding
 pub mod Shape
 pub mod Reading
 pub mod Due
+pub mod Nesting
 pub mod Laws

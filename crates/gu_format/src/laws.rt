@@ -3,6 +3,7 @@
 ghost use Rattle.gu_format.specs.Laws.{OneModule, EncodingSpells, SpelledIsShaped};
 ghost use Rattle.gu_format.specs.Laws.{ModuleAgain, ModuleTaken, StopsInside};
 ghost use Rattle.gu_format.specs.Laws.{RefusedIsUnspelled, MalformedIsUnspelled, OutsideIsUnspelled};
+ghost use Rattle.gu_format.specs.Laws.{ShallowIsRead, DeepIsUnspelled};
 
 /// A text spells at most one module, and the encoding of every module that is short enough to be
 /// written spells it.
@@ -25,9 +26,12 @@ pub fn spelled_is_shaped()
     ensures { SpelledIsShaped }
 {}
 
-/// A text that is refused spells no module, but that its blocks may be too deep.
+/// A text that is refused spells no module, but that its blocks may be too deep; and a module whose
+/// blocks are not too deep is read.
 pub fn refused_is_unspelled()
     ensures refused { RefusedIsUnspelled }
     ensures malformed { MalformedIsUnspelled }
     ensures outside { OutsideIsUnspelled }
+    ensures deep { DeepIsUnspelled }
+    ensures read { ShallowIsRead }
 {}
