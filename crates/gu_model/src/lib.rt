@@ -1,9 +1,7 @@
-//! What a module means: validity (core specification 3.0, chapter 3 Validation), execution (chapter
-//! 4 Execution), scripts of an embedder and the traces that they show, sameness of modules, and the
-//! module without dead tails.
+//! What a module means: the parts that its validity is told by (core specification 3.0, chapter 3
+//! Validation).
 #![tactic(auto)]
 
-pub mod laws;
 mod part;
 
 pub use part::Part;

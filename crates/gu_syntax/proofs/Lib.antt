@@ -1,11 +1,16 @@
-pub mod Back
-pub mod Bare
-pub mod Codes
-pub mod Decodes
-pub mod Least
-pub mod Lengths
-pub mod Modules
-pub mod Pieces
-mod Places
-pub mod Sections
 pub mod Shapes
+pub mod Back
+pub mod Takes
+pub mod Decodes
+pub mod Types
+pub mod Instructions
+pub mod Expressions
+pub mod SectionItems
+pub mod Segments
+pub mod Sections
+pub mod Modules
+pub mod Least
+pub mod Writing
+pub mod Shaped
+pub mod Narrow
+pub mod Shallow

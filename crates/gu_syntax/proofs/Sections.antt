@@ -1,330 +1,291 @@
--- Code entries, sections and modules: what is spelled is read, and what is read is spelled.
-use Rattle.std.proofs.Common.{ℕ, ◌≤◌, ◌<◌, List, [], ◌∷◌, ◌++◌, ◌≡◌, refl, ap, ◌∙◌, sym, subst, length, arith, nat_eq, cond, Bool, false, ◌⊎◌, inl, inr, map}
+-- Sections in order, with custom sections behind them: what is spelled is read, and what is read is spelled.
+use Rattle.std.proofs.Common.{ℕ, zero, suc, ◌≤◌, ◌<◌, List, [], ◌∷◌, ◌++◌, ◌≡◌, refl, ap, ◌∙◌, sym, subst, length, arith, nat_eq, false, inl, inr, append_assoc, length-append}
 use Rattle.std.proofs.lemmas.Bool.{cases_Bool, cond-true, cond-false}
-use Rattle.std.proofs.lemmas.List.{append-nil, length-map}
-use Rattle.gu_types.specs.declared.types.ValType.{ValType}
-use Rattle.gu_syntax.specs.Code.{Code, code_of, list_of}
-use Rattle.gu_syntax.specs.declared.module.Func.{Func}
-use Rattle.gu_syntax.specs.declared.instr.Instr.{Instr}
-use Rattle.gu_syntax.specs.Spelling.{Parts, Begins, Sized, SpellsU32, SpellsItems, SpellsVector, SpellsLocals, SpellsCode, SpellsEntry}
-use Rattle.gu_syntax.specs.Reading.{Read, got, stops, ◌>>=◌, u32_at, sized_at, expression_at, locals_at, func_at, entry_at, entries_at, bodies_at, section_at, end_at}
-use Rattle.gu_syntax.proofs.Back.{list_back}
-use Rattle.gu_syntax.proofs.Codes.{expression_decodes, code_back}
-use Rattle.gu_syntax.proofs.Decodes.{Takes, Decodes, Splits, Made, decodes_as, decodes_none, decodes_made, decodes_chain, decodes_then, u32_decodes, sized_decodes, stops-got, got-stops, left_is, value_is, rest_is, is_eq, eq_is, bind_got, bind_stops, shorter}
+use Rattle.gu_syntax.specs.Parts.{Parts, Sized, SpellsItems, SpellsName, Both}
+use Rattle.gu_syntax.specs.Instructions.{row_or}
+use Rattle.gu_syntax.specs.Module.{Custom, SpellsCustom, SpellsSection}
+use Rattle.gu_syntax.specs.Reading.{Fault, Read, got, stops, ◌>>=◌, made_at, both_at, then_at, sized_at, name_at, custom_of, rest_at, customs_of, customs_at, section_at}
+use Rattle.gu_syntax.proofs.Takes.{Takes, is_eq, eq_is, shorter}
+use Rattle.gu_syntax.proofs.Decodes.{Decodes, Fills, sized_fills, sized_decodes, value_is, rest_is, bind_got, bind_stops, got-stops}
+use Rattle.gu_syntax.proofs.SectionItems.{name_decodes}
 
--- locals
+-- the place of a section in the order of sections, by its id
+abbrev pub rank : ℕ → ℕ
+rank id = row_or 14 ((0, 0) ∷ (1, 1) ∷ (2, 2) ∷ (3, 3) ∷ (4, 4) ∷ (5, 5) ∷ (13, 6) ∷ (6, 7) ∷ (7, 8) ∷ (8, 9) ∷ (9, 10) ∷ (12, 11) ∷ (10, 12) ∷ (11, 13) ∷ []) id
 
-NoLocals : ℕ → List (ℕ × ValType) → List ℕ → Type 0
-NoLocals count locals front = (count ≡ 0) × (locals ≡ []) × (front ≡ [])
+-- the text is empty, or begins with the id of a later section
+abbrev pub Above : ℕ → List ℕ → Type 0
+Above place [] = Unit {0}
+Above place (b ∷ text) = place < rank b
 
-no_locals_at : ℕ → ℕ → List ℕ → Read (List (ℕ × ValType))
-no_locals_at left count rest = cond (nat_eq count 0) (got [] rest) (stops left)
+pub above_lower : (low high : ℕ) (text : List ℕ) → low ≤ high → Above high text → Above low text
+above_lower low high [] under h = tt
+above_lower low high (b ∷ text) under h = omega (arith, under, h)
 
-no_locals_again : (left count : ℕ) (locals : List (ℕ × ValType)) (front rest : List ℕ) → NoLocals count locals front → no_locals_at left count (front ++ rest) ≡ got locals rest
-unfolding NoLocals no_locals_at
-no_locals_again left count locals front rest h =
-    cond-true (nat_eq count 0) (got [] (front ++ rest)) (stops left) (eq_is count 0 h.0)
-    ∙ ap (λ t. got [] (t ++ rest)) h.2
-    ∙ ap (λ (l : List (ℕ × ValType)). got l rest) (sym h.1)
-
-no_locals_taken : (left count : ℕ) (text rest : List ℕ) (locals : List (ℕ × ValType)) → no_locals_at left count text ≡ got locals rest → Takes (NoLocals count locals) text rest
-unfolding NoLocals no_locals_at
-no_locals_taken left count text rest locals h = elim (cases_Bool (nat_eq count 0)) [
-  | inl is ↦ (
-      let g = sym (cond-true (nat_eq count 0) (got [] text) (stops left) is) ∙ h in
-      record { front = []; whole = rest_is [] locals text rest g; spells = (is_eq count 0 is, sym (value_is [] locals text rest g), refl) })
-  | inr isnt ↦ absurd (stops-got locals rest left (sym (cond-false (nat_eq count 0) (got [] text) (stops left) isnt) ∙ h))
+above_not : (place id b : ℕ) (text : List ℕ) → rank id ≡ place → Above place (b ∷ text) → nat_eq b id ≡ false
+above_not place id b text is h = elim (cases_Bool (nat_eq b id)) [
+  | inl same ↦ absurd (let e : rank b ≡ rank id = ap rank (is_eq b id same) in let f : place < rank b = h in omega (arith, e, is, f))
+  | inr isnt ↦ isnt
 ]
 
-no_locals_within : (left count : ℕ) (text : List ℕ) (k : ℕ) → no_locals_at left count text ≡ stops k → k ≡ left
-unfolding no_locals_at
-no_locals_within left count text k h = elim (cases_Bool (nat_eq count 0)) [
-  | inl is ↦ absurd (got-stops {A = List (ℕ × ValType)} [] text k (sym (cond-true (nat_eq count 0) (got [] text) (stops left) is) ∙ h))
-  | inr isnt ↦ sym (left_is {A = List (ℕ × ValType)} left k (sym (cond-false (nat_eq count 0) (got [] text) (stops left) isnt) ∙ h))
+-- custom sections
+
+abbrev Inside : Custom → List ℕ → Type 0
+Inside custom text = Parts (SpellsName custom.name) (λ back. back ≡ custom.bytes) text
+
+inside_at : List ℕ → Read Custom
+inside_at text = made_at custom_of (both_at name_at rest_at) text
+
+pair_at : List ℕ → List ℕ → Read (List ℕ × List ℕ)
+pair_at name rest = rest_at rest >>= λ bytes behind. got (name, bytes) behind
+
+inside_again : (bound : ℕ) (custom : Custom) (text : List ℕ) → Inside custom text → length text < bound → inside_at text ≡ got custom []
+unfolding inside_at pair_at
+inside_again bound custom text h low =
+    ap inside_at h.whole
+    ∙ ap (λ (r : Read (List ℕ)). (r >>= pair_at) >>= λ x behind. got (custom_of x) behind) ((name_decodes bound).again custom.name h.front h.back h.first (omega (arith, low, ap length h.whole)))
+    ∙ ap (λ (t : List ℕ). got (custom_of (custom.name, t)) []) h.second
+
+inside_got : (text rest : List ℕ) (custom : Custom) → inside_at text ≡ got custom rest → (rest ≡ []) × Inside custom text
+unfolding inside_at pair_at
+inside_got text rest custom h =
+    let b = bind_got (name_at text >>= pair_at) (λ x behind. got (custom_of x) behind) custom rest h in
+    let c = bind_got (name_at text) pair_at b.0 b.1 b.2 in
+    let t = (name_decodes 0).taken text c.1 c.0 c.2 in
+    let value : (c.0, c.1) ≡ b.0 = value_is (c.0, c.1) b.0 [] b.1 c.3 in
+    let behind : [] ≡ b.1 = rest_is (c.0, c.1) b.0 [] b.1 c.3 in
+    let P : Custom → Type 0 = λ x. Inside x text in (
+      sym (behind ∙ rest_is (custom_of b.0) custom b.1 rest b.3),
+      subst P (ap custom_of value ∙ value_is (custom_of b.0) custom b.1 rest b.3) (record { front = t.front; back = c.1; whole = t.whole; first = t.spells; second = refl }),
+    )
+
+inside_within : (text : List ℕ) (fault : Fault) → inside_at text ≡ stops fault → fault.left ≤ length text
+unfolding inside_at pair_at
+inside_within text fault h = elim (bind_stops (name_at text >>= pair_at) (λ x behind. got (custom_of x) behind) fault h) [
+  | inl first ↦ elim (bind_stops (name_at text) pair_at fault first) [
+    | inl name ↦ (name_decodes 0).within text fault name
+    | inr c ↦ absurd (got-stops (c.0, c.1) [] fault c.3)
+  ]
+  | inr b ↦ absurd (got-stops (custom_of b.0) b.1 fault b.3)
 ]
 
-locals_open : (locals : List (ℕ × ValType)) (text : List ℕ) → SpellsLocals locals text → (n : ℕ) × Parts (SpellsU32 n) (NoLocals n locals) text
-unfolding NoLocals
-locals_open [] text h = (0, record { front = text; back = []; whole = sym (append-nil text); first = h; second = (refl, refl, refl) })
-locals_open (run ∷ runs) text h = absurd h
-
-locals_close : (n : ℕ) (locals : List (ℕ × ValType)) (text : List ℕ) → Parts (SpellsU32 n) (NoLocals n locals) text → SpellsLocals locals text
-unfolding NoLocals
-locals_close n locals text p =
-    let same : p.front ≡ text = sym (append-nil p.front) ∙ ap (λ r. p.front ++ r) (sym p.second.2) ∙ sym p.whole in
-    let P : List (ℕ × ValType) → Type 0 = λ l. SpellsLocals l text in
-    let Q : List ℕ → Type 0 = λ t. SpellsU32 0 t in
-    let R : ℕ → Type 0 = λ m. SpellsU32 m p.front in
-    subst P (sym p.second.1) (subst Q same (subst R p.second.0 p.first))
-
-locals_decode : Decodes SpellsLocals locals_at
-unfolding no_locals_at
-locals_decode = decodes_chain SpellsLocals SpellsU32 NoLocals u32_at no_locals_at (record { opens = locals_open; closes = locals_close }) u32_decodes (λ count. record {
-  again = λ left locals front rest h. no_locals_again left count locals front rest h;
-  taken = λ left text rest locals h. no_locals_taken left count text rest locals h;
-  within = λ left text k h room. let e = no_locals_within left count text k h in omega (arith, e);
-})
-
--- functions
-
-func_of : ℕ → List (ℕ × ValType) → Code → Func
-func_of ty locals code = record { ty = ty; locals = locals; body = record { code = list_of code } }
-
-FuncOf : ℕ → Func → List ℕ → Type 0
-FuncOf ty func text = (func.ty ≡ ty) × Parts (SpellsLocals func.locals) (SpellsCode (code_of func.body.code)) text
-
-func_is : (ty : ℕ) (func : Func) → func.ty ≡ ty → func_of ty func.locals (code_of func.body.code) ≡ func
-unfolding func_of
-func_is ty func e =
-    let with_ty : ℕ → Func = λ n. record { ty = n; locals = func.locals; body = record { code = list_of (code_of func.body.code) } } in
-    let with_code : List Instr → Func = λ is. record { ty = func.ty; locals = func.locals; body = record { code = is } } in
-    ap with_ty (sym e) ∙ ap with_code (list_back func.body.code)
-
-func_close : (ty : ℕ) (locals : List (ℕ × ValType)) (func : Func) (text : List ℕ) → Parts (SpellsLocals locals) (Made SpellsCode (func_of ty locals) func) text → FuncOf ty func text
-unfolding FuncOf Made func_of
-func_close ty locals func text p =
-    let P : Func → Type 0 = λ f. FuncOf ty f text in
-    let Q : Code → Type 0 = λ c. SpellsCode c p.back in
-    subst P p.second.1 (refl, record { front = p.front; back = p.back; whole = p.whole; first = p.first; second = subst Q (sym (code_back p.second.0 p.back p.second.2)) p.second.2 })
-
-func_splits : (ty : ℕ) → Splits (FuncOf ty) SpellsLocals (λ locals. Made SpellsCode (func_of ty locals))
-unfolding FuncOf Made
-func_splits ty = record {
-  opens = λ func text h. (func.locals, record { front = h.1.front; back = h.1.back; whole = h.1.whole; first = h.1.first; second = (code_of func.body.code, func_is ty func h.0, h.1.second) });
-  closes = λ locals func text p. func_close ty locals func text p;
+inside_fills : (bound : ℕ) → Fills bound Inside inside_at
+inside_fills bound = record {
+  again = inside_again bound;
+  taken = λ text custom h. (inside_got text [] custom h).1;
+  fewer = λ text rest custom h. let e = (inside_got text rest custom h).0 in omega (arith, ap length e);
+  within = inside_within;
 }
 
-func_decodes : (ty : ℕ) → Decodes (FuncOf ty) (func_at ty)
-unfolding func_of
-func_decodes ty = decodes_then (FuncOf ty) SpellsLocals (λ locals. Made SpellsCode (func_of ty locals)) locals_at (λ locals rest. expression_at rest >>= λ code behind. got (func_of ty locals code) behind)
-    (func_splits ty)
-    locals_decode
-    (λ locals. decodes_made SpellsCode expression_at (func_of ty locals) expression_decodes)
+abbrev SizedCustom : Custom → List ℕ → Type 0
+SizedCustom custom text = Sized (Inside custom) text
 
--- code entries
+custom_decodes : (bound : ℕ) → Decodes bound SizedCustom (sized_at inside_at)
+custom_decodes bound = sized_fills bound Inside inside_at (inside_fills bound)
 
-pub EntryOf : ℕ → Func → List ℕ → Type 0
-EntryOf ty func text = (func.ty ≡ ty) × SpellsEntry func text
+-- what is read behind the id of a custom section
+more_customs : ℕ → Custom → List ℕ → Read (List Custom)
+more_customs fuel custom rest = customs_of fuel rest >>= λ customs behind. got (custom ∷ customs) behind
 
-pub entry_decodes : (ty : ℕ) → Decodes (EntryOf ty) (entry_at ty)
-unfolding EntryOf FuncOf
-entry_decodes ty = decodes_as (λ func. Sized (FuncOf ty func)) (EntryOf ty) (entry_at ty)
-    (λ func text h. (h.inside.0, record { size = h.size; content = h.content; whole = h.whole; counts = h.counts; inside = h.inside.1 }))
-    (λ func text h. record { size = h.1.size; content = h.1.content; whole = h.1.whole; counts = h.1.counts; inside = (h.0, h.1.inside) })
-    (sized_decodes (FuncOf ty) (func_at ty) (func_decodes ty))
+turn : (fuel : ℕ) (text : List ℕ) → customs_of (suc fuel) (0 ∷ text) ≡ (sized_at inside_at text >>= more_customs fuel)
+unfolding more_customs inside_at
+turn fuel text = refl
 
-abbrev pub indices : List Func → List ℕ
-indices funcs = map (λ func. func.ty) funcs
+no_customs : (fuel : ℕ) (text : List ℕ) → Above 0 text → customs_of fuel text ≡ got [] text
+no_customs fuel [] h = refl
+no_customs zero (b ∷ text) h = refl
+no_customs (suc fuel) (b ∷ text) h = cond-false (nat_eq b 0) (sized_at (made_at custom_of (both_at name_at rest_at)) text >>= λ custom rest. customs_of fuel rest >>= λ customs behind. got (custom ∷ customs) behind) (got [] (b ∷ text)) (above_not 0 0 b text refl h)
 
-pub Entries : List ℕ → List Func → List ℕ → Type 0
-Entries tys funcs text = (indices funcs ≡ tys) × SpellsItems SpellsEntry funcs text
+customs_again : (bound fuel : ℕ) (customs : List Custom) (front rest : List ℕ) → SpellsItems SpellsCustom customs front → Above 0 rest → length (front ++ rest) < bound → length (front ++ rest) ≤ fuel → customs_of fuel (front ++ rest) ≡ got customs rest
+unfolding more_customs inside_at
+customs_again bound fuel [] front rest h above low enough = ap (λ t. customs_of fuel (t ++ rest)) h ∙ no_customs fuel rest above
+customs_again bound zero (custom ∷ customs) front rest h above low enough = absurd (let e = h.first.whole in omega (arith, enough, ap length h.whole, ap length e, length-append h.front h.back, length-append front rest))
+customs_again bound (suc fuel) (custom ∷ customs) front rest h above low enough =
+    let c = h.first in
+    let split : front ++ rest ≡ 0 ∷ (c.back ++ (h.back ++ rest)) = ap (λ t. t ++ rest) (h.whole ∙ ap (λ t. t ++ h.back) c.whole) ∙ ap (λ t. 0 ∷ t) (append_assoc c.back h.back rest) in
+    let size : length (front ++ rest) ≡ suc (length (c.back ++ (h.back ++ rest))) = ap length split in
+    let sum = length-append c.back (h.back ++ rest) in
+    ap (customs_of (suc fuel)) split
+    ∙ turn fuel (c.back ++ (h.back ++ rest))
+    ∙ ap (λ r. r >>= more_customs fuel) ((custom_decodes bound).again custom c.back (h.back ++ rest) c.rest (omega (arith, low, size)))
+    ∙ ap (λ (r : Read (List Custom)). r >>= λ xs behind. got (custom ∷ xs) behind) (customs_again bound fuel customs h.back rest h.second above (omega (arith, low, size, sum)) (omega (arith, enough, size, sum)))
 
-same_head : (a b : ℕ) (xs ys : List ℕ) → a ∷ xs ≡ b ∷ ys → a ≡ b
-same_head a b xs ys h = cc
+none_taken : (customs : List Custom) (text rest : List ℕ) → ◌≡◌ {A = Read (List Custom)} (got [] text) (got customs rest) → Takes (SpellsItems SpellsCustom customs) text rest
+none_taken customs text rest h =
+    let P : List Custom → Type 0 = λ xs. SpellsItems SpellsCustom xs [] in
+    record { front = []; whole = rest_is [] customs text rest h; spells = subst P (value_is [] customs text rest h) refl }
 
-same_tail : (a b : ℕ) (xs ys : List ℕ) → a ∷ xs ≡ b ∷ ys → xs ≡ ys
-same_tail a b xs ys h = cc
-
-no-cons : (a : ℕ) (xs : List ℕ) → [] ≡ a ∷ xs → ⊥
-no-cons a xs h = cc
-
-cons-no : (a : ℕ) (xs : List ℕ) → a ∷ xs ≡ [] → ⊥
-cons-no a xs h = cc
-
-no_entries : (funcs : List Func) (text : List ℕ) → Entries [] funcs text → (funcs ≡ []) × (text ≡ [])
-unfolding Entries
-no_entries [] text h = (refl, h.1)
-no_entries (func ∷ funcs) text h = absurd (cons-no func.ty (map (λ f. f.ty) funcs) h.0)
-
-entries_none : (funcs : List Func) (text : List ℕ) → (funcs ≡ []) × (text ≡ []) → Entries [] funcs text
-unfolding Entries
-entries_none funcs text h = subst (λ (fs : List Func). Entries [] fs text) (sym h.0) (refl, h.1)
-
-entries_open : (ty : ℕ) (tys : List ℕ) (funcs : List Func) (text : List ℕ) → Entries (ty ∷ tys) funcs text → (func : Func) × Parts (EntryOf ty func) (Made (Entries tys) (λ fs. func ∷ fs) funcs) text
-unfolding Entries EntryOf Made
-entries_open ty tys [] text h = absurd (no-cons ty tys h.0)
-entries_open ty tys (func ∷ funcs) text h =
-    let first = same_head func.ty ty (map (λ f. f.ty) funcs) tys h.0 in
-    let later = same_tail func.ty ty (map (λ f. f.ty) funcs) tys h.0 in
-    (func, record { front = h.1.front; back = h.1.back; whole = h.1.whole; first = (first, h.1.first); second = (funcs, refl, (later, h.1.second)) })
-
-entries_close : (ty : ℕ) (tys : List ℕ) (func : Func) (funcs : List Func) (text : List ℕ) → Parts (EntryOf ty func) (Made (Entries tys) (λ fs. func ∷ fs) funcs) text → Entries (ty ∷ tys) funcs text
-unfolding Entries EntryOf Made
-entries_close ty tys func funcs text p =
-    let P : List Func → Type 0 = λ fs. Entries (ty ∷ tys) fs text in
-    let heads : ℕ → List ℕ = λ n. n ∷ map (λ (f : Func). f.ty) p.second.0 in
-    subst P p.second.1 (ap heads p.first.0 ∙ ap (λ (l : List ℕ). ty ∷ l) p.second.2.0, record { front = p.front; back = p.back; whole = p.whole; first = p.first.1; second = p.second.2.1 })
-
-pub entries_decode : (tys : List ℕ) → Decodes (Entries tys) (entries_at tys)
-entries_decode [] = decodes_as (λ funcs text. (funcs ≡ []) × (text ≡ [])) (Entries []) (λ text. got [] text) entries_none no_entries (decodes_none [])
-entries_decode (ty ∷ tys) = decodes_then (Entries (ty ∷ tys)) (EntryOf ty) (λ func. Made (Entries tys) (λ fs. func ∷ fs)) (entry_at ty) (λ func rest. entries_at tys rest >>= λ funcs behind. got (func ∷ funcs) behind)
-    (record { opens = entries_open ty tys; closes = entries_close ty tys })
-    (entry_decodes ty)
-    (λ func. decodes_made (Entries tys) (entries_at tys) (λ fs. func ∷ fs) (entries_decode tys))
-
--- the content of the code section
-
-abbrev pub Bodies : List ℕ → List Func → List ℕ → Type 0
-Bodies tys funcs text = (indices funcs ≡ tys) × SpellsVector SpellsEntry funcs text
-
-Counted : List ℕ → ℕ → List Func → List ℕ → Type 0
-Counted tys count funcs front = (count ≡ length tys) × Entries tys funcs front
-
-counted_at : List ℕ → ℕ → ℕ → List ℕ → Read (List Func)
-counted_at tys left count rest = cond (nat_eq count (length tys)) (entries_at tys rest) (stops left)
-
-counted_again : (tys : List ℕ) (left count : ℕ) (funcs : List Func) (front rest : List ℕ) → Counted tys count funcs front → counted_at tys left count (front ++ rest) ≡ got funcs rest
-unfolding Counted counted_at
-counted_again tys left count funcs front rest h =
-    cond-true (nat_eq count (length tys)) (entries_at tys (front ++ rest)) (stops left) (eq_is count (length tys) h.0)
-    ∙ (entries_decode tys).again funcs front rest h.1
-
-counted_taken : (tys : List ℕ) (left count : ℕ) (text rest : List ℕ) (funcs : List Func) → counted_at tys left count text ≡ got funcs rest → Takes (Counted tys count funcs) text rest
-unfolding Counted counted_at
-counted_taken tys left count text rest funcs h = elim (cases_Bool (nat_eq count (length tys))) [
+customs_taken : (fuel : ℕ) (text rest : List ℕ) (customs : List Custom) → customs_of fuel text ≡ got customs rest → Takes (SpellsItems SpellsCustom customs) text rest
+unfolding more_customs inside_at
+customs_taken fuel [] rest customs h = none_taken customs [] rest h
+customs_taken zero (b ∷ text) rest customs h = none_taken customs (b ∷ text) rest h
+customs_taken (suc fuel) (b ∷ text) rest customs h = elim (cases_Bool (nat_eq b 0)) [
   | inl is ↦ (
-      let t = (entries_decode tys).taken text rest funcs (sym (cond-true (nat_eq count (length tys)) (entries_at tys text) (stops left) is) ∙ h) in
-      record { front = t.front; whole = t.whole; spells = (is_eq count (length tys) is, t.spells) })
-  | inr isnt ↦ absurd (stops-got funcs rest left (sym (cond-false (nat_eq count (length tys)) (entries_at tys text) (stops left) isnt) ∙ h))
+      let g = sym (cond-true (nat_eq b 0) (sized_at inside_at text >>= more_customs fuel) (got [] (b ∷ text)) is) ∙ h in
+      let x = bind_got (sized_at inside_at text) (more_customs fuel) customs rest g in
+      let y = bind_got (customs_of fuel x.1) (λ xs behind. got (x.0 ∷ xs) behind) customs rest x.3 in
+      let t = (custom_decodes 0).taken text x.1 x.0 x.2 in
+      let u = customs_taken fuel x.1 y.1 y.0 y.2 in
+      let P : List Custom → Type 0 = λ xs. SpellsItems SpellsCustom xs ((b ∷ t.front) ++ u.front) in
+      record {
+        front = (b ∷ t.front) ++ u.front;
+        whole = ap (λ r. b ∷ r) (t.whole ∙ ap (λ r. t.front ++ r) (u.whole ∙ ap (λ r. u.front ++ r) (rest_is (x.0 ∷ y.0) customs y.1 rest y.3)) ∙ sym (append_assoc t.front u.front rest));
+        spells = subst P (value_is (x.0 ∷ y.0) customs y.1 rest y.3) (record { front = b ∷ t.front; back = u.front; whole = refl; first = record { back = t.front; whole = ap (λ n. n ∷ t.front) (is_eq b 0 is); rest = t.spells }; second = u.spells });
+      })
+  | inr isnt ↦ none_taken customs (b ∷ text) rest (sym (cond-false (nat_eq b 0) (sized_at inside_at text >>= more_customs fuel) (got [] (b ∷ text)) isnt) ∙ h)
 ]
 
-counted_within : (tys : List ℕ) (left count : ℕ) (text : List ℕ) (k : ℕ) → counted_at tys left count text ≡ stops k → length text ≤ left → k ≤ left
-unfolding counted_at
-counted_within tys left count text k h room = elim (cases_Bool (nat_eq count (length tys))) [
-  | inl is ↦ (let w = (entries_decode tys).within text k (sym (cond-true (nat_eq count (length tys)) (entries_at tys text) (stops left) is) ∙ h) in omega (arith, w, room))
-  | inr isnt ↦ (let e = left_is {A = List Func} left k (sym (cond-false (nat_eq count (length tys)) (entries_at tys text) (stops left) isnt) ∙ h) in omega (arith, e))
+customs_within : (fuel : ℕ) (text : List ℕ) (fault : Fault) → customs_of fuel text ≡ stops fault → fault.left ≤ length text
+unfolding more_customs inside_at
+customs_within fuel [] fault h = absurd (got-stops {A = List Custom} [] [] fault h)
+customs_within zero (b ∷ text) fault h = absurd (got-stops {A = List Custom} [] (b ∷ text) fault h)
+customs_within (suc fuel) (b ∷ text) fault h = elim (cases_Bool (nat_eq b 0)) [
+  | inl is ↦ elim (bind_stops (sized_at inside_at text) (more_customs fuel) fault (sym (cond-true (nat_eq b 0) (sized_at inside_at text >>= more_customs fuel) (got [] (b ∷ text)) is) ∙ h)) [
+    | inl first ↦ (let w = (custom_decodes 0).within text fault first in omega (arith, w))
+    | inr x ↦ elim (bind_stops (customs_of fuel x.1) (λ xs behind. got (x.0 ∷ xs) behind) fault x.3) [
+      | inl second ↦ (let w = customs_within fuel x.1 fault second in let l = shorter (SizedCustom x.0) text x.1 ((custom_decodes 0).taken text x.1 x.0 x.2) in omega (arith, w, l))
+      | inr y ↦ absurd (got-stops (x.0 ∷ y.0) y.1 fault y.3)
+    ]
+  ]
+  | inr isnt ↦ absurd (got-stops {A = List Custom} [] (b ∷ text) fault (sym (cond-false (nat_eq b 0) (sized_at inside_at text >>= more_customs fuel) (got [] (b ∷ text)) isnt) ∙ h))
 ]
 
-pub as_many : (tys : List ℕ) (funcs : List Func) → indices funcs ≡ tys → length funcs ≡ length tys
-as_many tys funcs e = sym (length-map funcs (λ func. func.ty)) ∙ ap length e
+-- reading of what stands between the sections of two places in the order
+pub record Stands {X : Type 0} (bound low high : ℕ) (P : X → List ℕ → Type 0) (at : List ℕ → Read X) : Type 0 where
+  pub again : (x : X) (front rest : List ℕ) → P x front → Above high rest → length (front ++ rest) < bound → at (front ++ rest) ≡ got x rest
+  pub taken : (text rest : List ℕ) (x : X) → at text ≡ got x rest → Takes (P x) text rest
+  pub within : (text : List ℕ) (fault : Fault) → at text ≡ stops fault → fault.left ≤ length text
+  pub above : (x : X) (front rest : List ℕ) → P x front → Above high rest → Above low (front ++ rest)
 
-bodies_splits : (tys : List ℕ) → Splits (Bodies tys) SpellsU32 (Counted tys)
-unfolding Counted Entries
-bodies_splits tys = record {
-  opens = λ funcs text h. (length funcs, record { front = h.1.front; back = h.1.back; whole = h.1.whole; first = h.1.first; second = (as_many tys funcs h.0, (h.0, h.1.second)) });
-  closes = λ n funcs text p.
-      let P : ℕ → Type 0 = λ m. SpellsU32 m p.front in
-      (p.second.1.0, record { front = p.front; back = p.back; whole = p.whole; first = subst P (p.second.0 ∙ sym (as_many tys funcs p.second.1.0)) p.first; second = p.second.1.1 });
-}
+abbrev CustomItems : List Custom → List ℕ → Type 0
+CustomItems = SpellsItems SpellsCustom
 
-pub bodies_decode : (tys : List ℕ) → Decodes (Bodies tys) (bodies_at tys)
-unfolding counted_at
-bodies_decode tys = decodes_chain (Bodies tys) SpellsU32 (Counted tys) u32_at (counted_at tys) (bodies_splits tys) u32_decodes (λ count. record {
-  again = λ left funcs front rest h. counted_again tys left count funcs front rest h;
-  taken = λ left text rest funcs h. counted_taken tys left count text rest funcs h;
-  within = λ left text k h room. counted_within tys left count text k h room;
-})
+self_low : (n : ℕ) → n ≤ n
+self_low n = omega arith
 
--- reading of a whole text
-pub record Whole {Y : Type 0} (P : Y → List ℕ → Type 0) (at : List ℕ → Read Y) : Type 0 where
-  pub again : (y : Y) (text : List ℕ) → P y text → at text ≡ got y []
-  pub taken : (text rest : List ℕ) (y : Y) → at text ≡ got y rest → P y text
-  pub within : (text : List ℕ) (left : ℕ) → at text ≡ stops left → left ≤ length text
+-- one section and the custom sections behind it
 
--- the text is empty, or begins with a greater byte
-abbrev pub StartsAbove : ℕ → List ℕ → Type 0
-StartsAbove id [] = Unit {0}
-StartsAbove id (b ∷ text) = id < b
+abbrev first_of : {X : Type 0} → X × List Custom → X
+first_of x = x.0
 
--- a section whose content C takes
-abbrev pub Section : {X : Type 0} → ℕ → (List X → List ℕ → Type 0) → List X → List ℕ → Type 0
-Section id C xs text = ((xs ≡ []) × (text ≡ [])) ⊎ Begins id (Sized (C xs)) text
+absent : {X : Type 0} (id place : ℕ) (nothing : X) (content : List ℕ → Read X) (text : List ℕ) → rank id ≡ place → Above place text → section_at id nothing content text ≡ got nothing text
+absent id place nothing content [] is h = refl
+absent id place nothing content (b ∷ text) is h = cond-false (nat_eq b id) (made_at first_of (both_at (sized_at content) customs_at) text) (got nothing (b ∷ text)) (above_not place id b text is h)
 
-absent : {X : Type 0} (id : ℕ) (content : List ℕ → Read (List X)) (text : List ℕ) → StartsAbove id text → section_at id content text ≡ got [] text
-absent id content [] h = refl
-absent id content (b ∷ text) h = cond-false (nat_eq b id) (sized_at content text) (got [] (b ∷ text)) (grind (arith, h))
+section_again : {X : Type 0} (bound id place : ℕ) (nothing : X) (C : X → List ℕ → Type 0) (content : List ℕ → Read X) → rank id ≡ place → Decodes bound C content → (x : X) (front rest : List ℕ) → SpellsSection id nothing C x front → Above place rest → length (front ++ rest) < bound → section_at id nothing content (front ++ rest) ≡ got x rest
+section_again bound id place nothing C content is d x front rest (inl none) above low = ap (λ t. section_at id nothing content (t ++ rest)) none.1 ∙ absent id place nothing content rest is above ∙ ap (λ y. got y rest) (sym none.0)
+section_again {X} bound id place nothing C content is d x front rest (inr there) above low =
+    let p = there.rest in
+    let cs = p.second in
+    let split : front ++ rest ≡ id ∷ (p.front ++ (p.back ++ rest)) = ap (λ t. t ++ rest) (there.whole ∙ ap (λ t. id ∷ t) p.whole) ∙ ap (λ t. id ∷ t) (append_assoc p.front p.back rest) in
+    let size : length (front ++ rest) ≡ suc (length (p.front ++ (p.back ++ rest))) = ap length split in
+    let sum = length-append p.front (p.back ++ rest) in
+    let read : List ℕ → Read X = λ t. made_at first_of (both_at (sized_at content) customs_at) t in
+    let zero_low : Above 0 rest = above_lower 0 place rest (omega arith) above in
+    ap (section_at id nothing content) split
+    ∙ cond-true (nat_eq id id) (read (p.front ++ (p.back ++ rest))) (got nothing (id ∷ (p.front ++ (p.back ++ rest)))) (eq_is id id refl)
+    ∙ ap (λ (r : Read X). (r >>= λ y behind. customs_at behind >>= λ ys after. got (y, ys) after) >>= λ z behind. got (first_of z) behind) ((sized_decodes bound C content d).again x p.front (p.back ++ rest) p.first (omega (arith, low, size)))
+    ∙ ap (λ (r : Read (List Custom)). (r >>= λ ys after. got (x, ys) after) >>= λ z behind. got (first_of z) behind) (customs_again bound (length (p.back ++ rest)) cs.customs p.back rest cs.items zero_low (omega (arith, low, size, sum)) (self_low (length (p.back ++ rest))))
 
-section_again : {X : Type 0} (id : ℕ) (C : List X → List ℕ → Type 0) (content : List ℕ → Read (List X)) → Decodes C content → (xs : List X) (front rest : List ℕ) → Section id C xs front → StartsAbove id rest → section_at id content (front ++ rest) ≡ got xs rest
-section_again id C content d xs front rest (inl none) s =
-    ap (λ t. section_at id content (t ++ rest)) none.1 ∙ absent id content rest s ∙ ap (λ ys. got ys rest) (sym none.0)
-section_again id C content d xs front rest (inr there) s =
-    ap (λ t. section_at id content (t ++ rest)) there.whole
-    ∙ cond-true (nat_eq id id) (sized_at content (there.back ++ rest)) (got [] (id ∷ (there.back ++ rest))) (eq_is id id refl)
-    ∙ (sized_decodes C content d).again xs there.back rest there.rest
-
-section_taken : {X : Type 0} (id : ℕ) (C : List X → List ℕ → Type 0) (content : List ℕ → Read (List X)) → Decodes C content → (text rest : List ℕ) (xs : List X) → section_at id content text ≡ got xs rest → Takes (Section id C xs) text rest
-section_taken id C content d [] rest xs h = record { front = []; whole = rest_is [] xs [] rest h; spells = inl (sym (value_is [] xs [] rest h), refl) }
-section_taken id C content d (b ∷ text) rest xs h = elim (cases_Bool (nat_eq b id)) [
+section_taken : {X : Type 0} (id : ℕ) (nothing : X) (C : X → List ℕ → Type 0) (content : List ℕ → Read X) → Decodes 0 C content → (text rest : List ℕ) (x : X) → section_at id nothing content text ≡ got x rest → Takes (SpellsSection id nothing C x) text rest
+section_taken id nothing C content d [] rest x h = record { front = []; whole = rest_is nothing x [] rest h; spells = inl (sym (value_is nothing x [] rest h), refl) }
+section_taken id nothing C content d (b ∷ text) rest x h = elim (cases_Bool (nat_eq b id)) [
   | inl is ↦ (
-      let t = (sized_decodes C content d).taken text rest xs (sym (cond-true (nat_eq b id) (sized_at content text) (got [] (b ∷ text)) is) ∙ h) in
-      record { front = b ∷ t.front; whole = ap (λ r. b ∷ r) t.whole; spells = inr (record { back = t.front; whole = ap (λ c. c ∷ t.front) (is_eq b id is); rest = t.spells }) })
+      let g = sym (cond-true (nat_eq b id) (made_at first_of (both_at (sized_at content) customs_at) text) (got nothing (b ∷ text)) is) ∙ h in
+      let z = bind_got (both_at (sized_at content) customs_at text) (λ y behind. got (first_of y) behind) x rest g in
+      let a = bind_got (sized_at content text) (λ y behind. customs_at behind >>= λ ys after. got (y, ys) after) z.0 z.1 z.2 in
+      let c = bind_got (customs_at a.1) (λ ys after. got (a.0, ys) after) z.0 z.1 a.3 in
+      let t = (sized_decodes 0 C content d).taken text a.1 a.0 a.2 in
+      let u = customs_taken (length a.1) a.1 c.1 c.0 c.2 in
+      let value : a.0 ≡ x = ap first_of (value_is (a.0, c.0) z.0 c.1 z.1 c.3) ∙ value_is (first_of z.0) x z.1 rest z.3 in
+      let behind : c.1 ≡ rest = rest_is (a.0, c.0) z.0 c.1 z.1 c.3 ∙ rest_is (first_of z.0) x z.1 rest z.3 in
+      let P : _ → Type 0 = λ y. SpellsSection id nothing C y ((b ∷ t.front) ++ u.front) in
+      record {
+        front = (b ∷ t.front) ++ u.front;
+        whole = ap (λ r. b ∷ r) (t.whole ∙ ap (λ r. t.front ++ r) (u.whole ∙ ap (λ r. u.front ++ r) behind) ∙ sym (append_assoc t.front u.front rest));
+        spells = subst P value (inr (record { back = t.front ++ u.front; whole = ap (λ n. n ∷ (t.front ++ u.front)) (is_eq b id is); rest = record { front = t.front; back = u.front; whole = refl; first = t.spells; second = record { customs = c.0; items = u.spells } } }));
+      })
   | inr isnt ↦ (
-      let g = sym (cond-false (nat_eq b id) (sized_at content text) (got [] (b ∷ text)) isnt) ∙ h in
-      record { front = []; whole = rest_is [] xs (b ∷ text) rest g; spells = inl (sym (value_is [] xs (b ∷ text) rest g), refl) })
+      let g = sym (cond-false (nat_eq b id) (made_at first_of (both_at (sized_at content) customs_at) text) (got nothing (b ∷ text)) isnt) ∙ h in
+      record { front = []; whole = rest_is nothing x (b ∷ text) rest g; spells = inl (sym (value_is nothing x (b ∷ text) rest g), refl) })
 ]
 
-section_within : {X : Type 0} (id : ℕ) (C : List X → List ℕ → Type 0) (content : List ℕ → Read (List X)) → Decodes C content → (text : List ℕ) (k : ℕ) → section_at id content text ≡ stops k → k ≤ length text
-section_within {X} id C content d [] k h = absurd (got-stops {A = List X} [] [] k h)
-section_within {X} id C content d (b ∷ text) k h = elim (cases_Bool (nat_eq b id)) [
-  | inl is ↦ (let w = (sized_decodes C content d).within text k (sym (cond-true (nat_eq b id) (sized_at content text) (got [] (b ∷ text)) is) ∙ h) in omega (arith, w))
-  | inr isnt ↦ absurd (got-stops {A = List X} [] (b ∷ text) k (sym (cond-false (nat_eq b id) (sized_at content text) (got [] (b ∷ text)) isnt) ∙ h))
+section_within : {X : Type 0} (id : ℕ) (nothing : X) (C : X → List ℕ → Type 0) (content : List ℕ → Read X) → Decodes 0 C content → (text : List ℕ) (fault : Fault) → section_at id nothing content text ≡ stops fault → fault.left ≤ length text
+section_within id nothing C content d [] fault h = absurd (got-stops nothing [] fault h)
+section_within id nothing C content d (b ∷ text) fault h = elim (cases_Bool (nat_eq b id)) [
+  | inl is ↦ elim (bind_stops (both_at (sized_at content) customs_at text) (λ y behind. got (first_of y) behind) fault (sym (cond-true (nat_eq b id) (made_at first_of (both_at (sized_at content) customs_at) text) (got nothing (b ∷ text)) is) ∙ h)) [
+    | inl both ↦ elim (bind_stops (sized_at content text) (λ y behind. customs_at behind >>= λ ys after. got (y, ys) after) fault both) [
+      | inl first ↦ (let w = (sized_decodes 0 C content d).within text fault first in omega (arith, w))
+      | inr a ↦ elim (bind_stops (customs_at a.1) (λ ys after. got (a.0, ys) after) fault a.3) [
+        | inl second ↦ (let w = customs_within (length a.1) a.1 fault second in let l = shorter (λ t. Sized (C a.0) t) text a.1 ((sized_decodes 0 C content d).taken text a.1 a.0 a.2) in omega (arith, w, l))
+        | inr c ↦ absurd (got-stops (a.0, c.0) c.1 fault c.3)
+      ]
+    ]
+    | inr z ↦ absurd (got-stops (first_of z.0) z.1 fault z.3)
+  ]
+  | inr isnt ↦ absurd (got-stops nothing (b ∷ text) fault (sym (cond-false (nat_eq b id) (made_at first_of (both_at (sized_at content) customs_at) text) (got nothing (b ∷ text)) isnt) ∙ h))
 ]
 
-above : (a b : ℕ) (text : List ℕ) → a < b → StartsAbove b text → StartsAbove a text
-above a b [] u s = tt
-above a b (c ∷ text) u s = omega (arith, u, s)
+section_above : {X : Type 0} (id low place : ℕ) (nothing : X) (C : X → List ℕ → Type 0) → rank id ≡ place → low < place → (x : X) (front rest : List ℕ) → SpellsSection id nothing C x front → Above place rest → Above low (front ++ rest)
+section_above id low place nothing C is under x front rest (inl none) above = let P : List ℕ → Type 0 = λ t. Above low (t ++ rest) in subst P (sym none.1) (above_lower low place rest (omega (arith, under)) above)
+section_above id low place nothing C is under x front rest (inr there) above = let P : List ℕ → Type 0 = λ t. Above low (t ++ rest) in subst P (sym there.whole) (let e : low < rank id = omega (arith, is, under) in e)
 
-starts_from : {X : Type 0} (low id : ℕ) (C : List X → List ℕ → Type 0) (xs : List X) (front back text : List ℕ) → low < id → Section id C xs front → StartsAbove id back → text ≡ front ++ back → StartsAbove low text
-starts_from low id C xs front back text under (inl none) s whole = let P : List ℕ → Type 0 = λ t. StartsAbove low t in subst P (sym (whole ∙ ap (λ t. t ++ back) none.1)) (above low id back under s)
-starts_from low id C xs front back text under (inr there) s whole = let P : List ℕ → Type 0 = λ t. StartsAbove low t in subst P (sym (whole ∙ ap (λ t. t ++ back) there.whole)) under
-
--- what begins with a section begins above what lies below the section's id
-pub starts : {X : Type 0} (low id : ℕ) (C : List X → List ℕ → Type 0) (xs : List X) (Q : List ℕ → Type 0) (text : List ℕ) → low < id → ((rest : List ℕ) → Q rest → StartsAbove id rest) → Parts (Section id C xs) Q text → StartsAbove low text
-starts low id C xs Q text under later p = starts_from low id C xs p.front p.back text under p.first (later p.back p.second) p.whole
-
-pub starts_last : {X : Type 0} (low id : ℕ) (C : List X → List ℕ → Type 0) (xs : List X) (text : List ℕ) → low < id → Section id C xs text → StartsAbove low text
-starts_last low id C xs text under h = starts_from low id C xs text [] text under h tt (sym (append-nil text))
-
--- a section whose content another relation takes
-pub section_as : {X : Type 0} (id : ℕ) (C D : List X → List ℕ → Type 0) (xs : List X) (text : List ℕ) → ((front : List ℕ) → C xs front → D xs front) → Section id C xs text → Section id D xs text
-section_as id C D xs text f (inl none) = inl none
-section_as id C D xs text f (inr there) = inr (record { back = there.back; whole = there.whole; rest = record { size = there.rest.size; content = there.rest.content; whole = there.rest.whole; counts = there.rest.counts; inside = f there.rest.content there.rest.inside } })
-
-pub whole_section : {X Y : Type 0} (R : Y → List ℕ → Type 0) (id : ℕ) (C : List X → List ℕ → Type 0) (Q : List X → Y → List ℕ → Type 0) (content : List ℕ → Read (List X)) (next : List X → List ℕ → Read Y) → Splits R (Section id C) Q → Decodes C content → ((xs : List X) → Whole (Q xs) (next xs)) → ((xs : List X) (y : Y) (text : List ℕ) → Q xs y text → StartsAbove id text) → Whole R (λ text. section_at id content text >>= next)
-whole_section R id C Q content next s d w later = record {
-  again = λ y text h.
-      let o = s.opens y text h in
-      let p = o.1 in
-      ap (λ t. section_at id content t >>= next) p.whole
-      ∙ ap (λ r. r >>= next) (section_again id C content d o.0 p.front p.back p.first (later o.0 y p.back p.second))
-      ∙ (w o.0).again y p.back p.second;
-  taken = λ text rest y h.
-      let b = bind_got (section_at id content text) next y rest h in
-      let t = section_taken id C content d text b.1 b.0 b.2 in
-      s.closes b.0 y text (record { front = t.front; back = b.1; whole = t.whole; first = t.spells; second = (w b.0).taken b.1 rest y b.3 });
-  within = λ text k h. elim (bind_stops (section_at id content text) next k h) [
-    | inl first ↦ section_within id C content d text k first
-    | inr b ↦ (
-        let t = section_taken id C content d text b.1 b.0 b.2 in
-        let under = (w b.0).within b.1 k b.3 in
-        let fewer = shorter (Section id C b.0) text b.1 t in
-        omega (arith, under, fewer))
-  ];
+pub section_stands : {X : Type 0} (bound id low place : ℕ) (nothing : X) (C : X → List ℕ → Type 0) (content : List ℕ → Read X) → rank id ≡ place → low < place → Decodes bound C content → Decodes 0 C content → Stands bound low place (SpellsSection id nothing C) (section_at id nothing content)
+section_stands bound id low place nothing C content is under d e = record {
+  again = section_again bound id place nothing C content is d;
+  taken = section_taken id nothing C content e;
+  within = section_within id nothing C content e;
+  above = section_above id low place nothing C is under;
 }
 
--- the end of a text
+-- one behind another, which is read by it
 
-unfoldable pub AtEnd : {Y : Type 0} → Bool → Y → Y → List ℕ → Type 0
-AtEnd due x y text = (due ≡ false) × (x ≡ y) × (text ≡ [])
+unfoldable pub DependsOn : {X Y : Type 0} → (X → List ℕ → Type 0) → (X → Y → List ℕ → Type 0) → X × Y → List ℕ → Type 0
+DependsOn P Q xy text = Parts (P xy.0) (Q xy.0 xy.1) text
 
-end_again : {Y : Type 0} (due : Bool) (x y : Y) (text : List ℕ) → AtEnd due x y text → end_at due x text ≡ got y []
-unfolding AtEnd
-end_again due x y text h = ap (end_at due x) h.2 ∙ cond-false due (stops 0) (got x []) h.0 ∙ ap (λ z. got z []) h.1
+pub then_stands : {X Y : Type 0} (bound low middle high : ℕ) (P : X → List ℕ → Type 0) (Q : X → Y → List ℕ → Type 0) (first : List ℕ → Read X) (second : X → List ℕ → Read Y) → Stands bound low middle P first → ((x : X) → Stands bound middle high (Q x) (second x)) → Stands bound low high (DependsOn P Q) (then_at first second)
+unfolding DependsOn
+then_stands {X} {Y} bound low middle high P Q first second d e = record {
+  again = λ xy front rest h above under.
+      let split : front ++ rest ≡ h.front ++ (h.back ++ rest) = ap (λ t. t ++ rest) h.whole ∙ append_assoc h.front h.back rest in
+      let size : length (front ++ rest) ≡ length (h.front ++ (h.back ++ rest)) = ap length split in
+      let sum = length-append h.front (h.back ++ rest) in
+      ap (then_at first second) split
+      ∙ ap (λ (r : Read X). r >>= λ x more. second x more >>= λ y behind. got (x, y) behind) (d.again xy.0 h.front (h.back ++ rest) h.first ((e xy.0).above xy.1 h.back rest h.second above) (omega (arith, under, size)))
+      ∙ ap (λ (r : Read Y). r >>= λ y behind. got (xy.0, y) behind) ((e xy.0).again xy.1 h.back rest h.second above (omega (arith, under, size, sum)));
+  taken = λ text rest xy h.
+      let a = bind_got (first text) (λ x more. second x more >>= λ y behind. got (x, y) behind) xy rest h in
+      let b = bind_got (second a.0 a.1) (λ y behind. got (a.0, y) behind) xy rest a.3 in
+      let t = d.taken text a.1 a.0 a.2 in
+      let u = (e a.0).taken a.1 b.1 b.0 b.2 in
+      let R : X × Y → Type 0 = λ z. Parts (P z.0) (Q z.0 z.1) (t.front ++ u.front) in
+      record {
+        front = t.front ++ u.front;
+        whole = t.whole ∙ ap (λ r. t.front ++ r) (u.whole ∙ ap (λ r. u.front ++ r) (rest_is (a.0, b.0) xy b.1 rest b.3)) ∙ sym (append_assoc t.front u.front rest);
+        spells = subst R (value_is (a.0, b.0) xy b.1 rest b.3) (record { front = t.front; back = u.front; whole = refl; first = t.spells; second = u.spells });
+      };
+  within = λ text fault h. elim (bind_stops (first text) (λ x more. second x more >>= λ y behind. got (x, y) behind) fault h) [
+    | inl k ↦ d.within text fault k
+    | inr a ↦ elim (bind_stops (second a.0 a.1) (λ y behind. got (a.0, y) behind) fault a.3) [
+      | inl k ↦ (let w = (e a.0).within a.1 fault k in let l = shorter (P a.0) text a.1 (d.taken text a.1 a.0 a.2) in omega (arith, w, l))
+      | inr b ↦ absurd (got-stops (a.0, b.0) b.1 fault b.3)
+    ]
+  ];
+  above = λ xy front rest h above.
+      let R : List ℕ → Type 0 = λ t. Above low t in
+      let split : front ++ rest ≡ h.front ++ (h.back ++ rest) = ap (λ t. t ++ rest) h.whole ∙ append_assoc h.front h.back rest in
+      subst R (sym split) (d.above xy.0 h.front (h.back ++ rest) h.first ((e xy.0).above xy.1 h.back rest h.second above));
+}
 
-end_taken : {Y : Type 0} (due : Bool) (x : Y) (text rest : List ℕ) (y : Y) → end_at due x text ≡ got y rest → AtEnd due x y text
-unfolding AtEnd
-end_taken due x [] rest y h = elim (cases_Bool due) [
-  | inl is ↦ absurd (stops-got y rest 0 (sym (cond-true due (stops 0) (got x []) is) ∙ h))
-  | inr isnt ↦ (isnt, value_is x y [] rest (sym (cond-false due (stops 0) (got x []) isnt) ∙ h), refl)
-]
-end_taken due x (b ∷ text) rest y h = absurd (stops-got y rest (length (b ∷ text)) h)
+pub both_stands : {X Y : Type 0} (bound low middle high : ℕ) (P : X → List ℕ → Type 0) (Q : Y → List ℕ → Type 0) (first : List ℕ → Read X) (second : List ℕ → Read Y) → Stands bound low middle P first → Stands bound middle high Q second → Stands bound low high (Both P Q) (both_at first second)
+unfolding DependsOn
+both_stands bound low middle high P Q first second d e = then_stands bound low middle high P (λ x. Q) first (λ x. second) d (λ x. e)
 
-end_within : {Y : Type 0} (due : Bool) (x : Y) (text : List ℕ) (k : ℕ) → end_at due x text ≡ stops k → k ≤ length text
-end_within due x [] k h = elim (cases_Bool due) [
-  | inl is ↦ (let e = left_is 0 k (sym (cond-true due (stops 0) (got x []) is) ∙ h) in omega (arith, e))
-  | inr isnt ↦ absurd (got-stops x [] k (sym (cond-false due (stops 0) (got x []) isnt) ∙ h))
-]
-end_within due x (b ∷ text) k h = let e = left_is (length (b ∷ text)) k h in omega (arith, e)
+pub customs_behind : (bound : ℕ) (customs : List Custom) (front rest : List ℕ) → CustomItems customs front → Above 0 rest → length (front ++ rest) < bound → customs_at (front ++ rest) ≡ got customs rest
+customs_behind bound customs front rest h above low = customs_again bound (length (front ++ rest)) customs front rest h above low (self_low (length (front ++ rest)))
 
-pub end_whole : {Y : Type 0} (due : Bool) (x : Y) → Whole (AtEnd due x) (end_at due x)
-end_whole due x = record { again = λ y text h. end_again due x y text h; taken = λ text rest y h. end_taken due x text rest y h; within = λ text k h. end_within due x text k h }
+pub customs_read : (text rest : List ℕ) (customs : List Custom) → customs_at text ≡ got customs rest → Takes (CustomItems customs) text rest
+customs_read text rest customs h = customs_taken (length text) text rest customs h
+
+pub customs_stop : (text : List ℕ) (fault : Fault) → customs_at text ≡ stops fault → fault.left ≤ length text
+customs_stop text fault h = customs_within (length text) text fault h

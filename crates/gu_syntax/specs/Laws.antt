@@ -1,44 +1,58 @@
--- What holds of every text and every module.
-use Rattle.std.specs.Prelude.{ℕ, ◌≤◌, ◌≡◌, List, [], length}
-use Rattle.gu_syntax.specs.Spelling.{Spells}
-use Rattle.gu_syntax.specs.Profile.{InFirstProfile}
-use Rattle.gu_syntax.specs.Encoding.{encoding, FitsU32, IsShaped, IsPlain}
-use Rattle.gu_syntax.specs.Reading.{module_at, got, stops}
+-- What holds of every text and every module of the whole format.
+use Rattle.std.specs.Prelude.{ℕ, suc, ◌≤◌, ◌≡◌, List, [], length}
+use Rattle.std.specs.List.{AllByRecursion}
+use Rattle.gu_syntax.specs.Shape.{FitsU32, IsShaped, IsPlain}
+use Rattle.gu_syntax.specs.Module.{Spells}
+use Rattle.gu_syntax.specs.Encoding.{encoding}
+use Rattle.gu_syntax.specs.Reading.{Fault, FlatOpcode, module_at, got, stops}
+use Rattle.gu_syntax.specs.Due.{IsMalformed, IsOutside, NestsTooDeep}
+use Rattle.gu_syntax.specs.Nesting.{IsShallow}
+use Rattle.gu_syntax.specs.declared.module.Func.{Func}
 use Rattle.gu_syntax.specs.declared.module.Module.{Module}
 
 -- a text spells at most one module
 abbrev pub OneModule : Type 0
 OneModule = (text : List ℕ) (m n : Module) → Spells text m → Spells text n → m ≡ n
 
--- the encoding of a module spells it
+-- the encoding of every module that is short enough to be written spells it
 abbrev pub EncodingSpells : Type 0
-EncodingSpells = (m : Module) → InFirstProfile m → IsPlain m → Spells (encoding m) m
+EncodingSpells = (m : Module) → IsPlain m → Spells (encoding m) m
 
--- no text of a module is shorter than its encoding
-abbrev pub EncodingIsLeast : Type 0
-EncodingIsLeast = (text : List ℕ) (m : Module) → Spells text m → length (encoding m) ≤ length text
+-- the merged runs of a function's locals have lengths that the tree can hold
+abbrev pub RunsFit : Func → Type 0
+RunsFit func = AllByRecursion (λ run. FitsU32 run.0) func.locals
 
--- what is spelled is a shaped module of the first profile
-abbrev pub SpelledIsBare : Type 0
-SpelledIsBare = (text : List ℕ) (m : Module) → Spells text m → InFirstProfile m
-
+-- what is spelled is shaped, where the tree can hold its numbers: only runs of locals can grow past what is spelled
 abbrev pub SpelledIsShaped : Type 0
-SpelledIsShaped = (text : List ℕ) (m : Module) → Spells text m → IsShaped m
+SpelledIsShaped = (text : List ℕ) (m : Module) → Spells text m → AllByRecursion RunsFit m.funcs → IsShaped m
 
--- its functions and its exports can be counted in 32 bits
-abbrev pub SpelledIsCounted : Type 0
-SpelledIsCounted = (text : List ℕ) (m : Module) → Spells text m → FitsU32 (length m.funcs) × FitsU32 (length m.exports)
-
--- a module is read from exactly the texts that spell it
+-- a module is read from a text that spells it, where as many blocks may be open as the text has bytes
 abbrev pub ModuleAgain : Type 0
-ModuleAgain = (text : List ℕ) (m : Module) → Spells text m → module_at text ≡ got m []
+ModuleAgain = (text : List ℕ) (m : Module) → Spells text m → module_at (suc (length text)) text ≡ got m []
 
+-- what is read is spelled by the whole text, however many blocks may be open
 abbrev pub ModuleTaken : Type 0
-ModuleTaken = (text rest : List ℕ) (m : Module) → module_at text ≡ got m rest → Spells text m
+ModuleTaken = (room : ℕ) (text rest : List ℕ) (m : Module) → module_at room text ≡ got m rest → Spells text m
 
--- where reading stops, nothing is spelled, and the place lies in the text
-abbrev pub ModuleRefused : Type 0
-ModuleRefused = (text : List ℕ) (m : Module) (left : ℕ) → module_at text ≡ stops left → Spells text m → ⊥
-
+-- where reading stops lies in the text
 abbrev pub StopsInside : Type 0
-StopsInside = (text : List ℕ) (left : ℕ) → module_at text ≡ stops left → left ≤ length text
+StopsInside = (room : ℕ) (text : List ℕ) (fault : Fault) → module_at room text ≡ stops fault → fault.left ≤ length text
+
+-- where a text is refused it spells no module, but that its blocks may be too deep
+abbrev pub RefusedIsUnspelled : Type 0
+RefusedIsUnspelled = (room : ℕ) (text : List ℕ) (m : Module) (fault : Fault) → module_at room text ≡ stops fault → Spells text m → fault.item ≡ FlatOpcode
+
+-- where a text is malformed or has a code that is left out it spells no module
+abbrev pub MalformedIsUnspelled : Type 0
+MalformedIsUnspelled = (text : List ℕ) (place : ℕ) (m : Module) → IsMalformed text place → Spells text m → ⊥
+
+abbrev pub OutsideIsUnspelled : Type 0
+OutsideIsUnspelled = (text : List ℕ) (place code : ℕ) (m : Module) → IsOutside text place code → Spells text m → ⊥
+
+-- a module that is spelled is read where as many blocks may be open as it needs
+abbrev pub ShallowIsRead : Type 0
+ShallowIsRead = (room : ℕ) (text : List ℕ) (m : Module) → Spells text m → IsShallow room m → module_at room text ≡ got m []
+
+-- where a block is opened too deep the text spells no module that nests at most 1,000 deep
+abbrev pub DeepIsUnspelled : Type 0
+DeepIsUnspelled = (text : List ℕ) (place : ℕ) (m : Module) → NestsTooDeep text place → Spells text m → IsShallow 1000 m → ⊥

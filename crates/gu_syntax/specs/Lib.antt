@@ -1,6 +1,13 @@
 pub mod Code
-pub mod Spelling
-pub mod Profile
+pub mod Parts
+pub mod Types
+pub mod Instructions
+pub mod Expressions
+pub mod Sections
+pub mod Module
 pub mod Encoding
+pub mod Shape
 pub mod Reading
+pub mod Due
+pub mod Nesting
 pub mod Laws

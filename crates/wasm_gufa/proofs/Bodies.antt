@@ -7,7 +7,7 @@ use Rattle.gu_syntax.specs.declared.instr.Instr.TheVariants.{Unreachable, Nop, R
 use Rattle.gu_syntax.specs.declared.module.Module.{Module}
 use Rattle.gu_syntax.specs.Code.{ins_of}
 use Rattle.gu_syntax.proofs.Shapes.{shapes}
-use Rattle.gu_model.specs.Typing.{Shape, Around, type_ins}
+use Rattle.gu_first.specs.Typing.{Shape, Around, type_ins}
 
 pub untyped : (m : Module) (a : Around) (i : Instr) (s : Shape) → i ≢ Unreachable → i ≢ Nop → i ≢ Return → ((func : ℕ) → i ≢ Call func) → i ≢ Drop → ((local : ℕ) → i ≢ LocalGet local) → ((value : ℤ) → i ≢ I32Const value) → ((op : NumOp) → i ≢ Num op) → type_ins m a (ins_of i) s ≡ None
 unfolding ins_of

@@ -1,17 +1,17 @@
 -- What the answers of the steps say of the bytes, and which answer must come.
 use Rattle.std.proofs.Common.{◌≡◌, ◌≢◌, ℕ, ◌+◌, ◌<◌, ◌≤◌, inl, inr, List, length, Option, Some, None, Result, Ok, Err, IfErr, IsErrAnd, IfSome, sym, ap, subst, refl, arith}
 use Rattle.gu_outside.specs.Outside.{Appended, PrefixAdded}
-use Rattle.gu_syntax.specs.Spelling.{Spells}
-use Rattle.gu_syntax.specs.Encoding.{encoding, IsPlain}
-use Rattle.gu_syntax.specs.Reading.{module_at, stops}
+use Rattle.gu_first.specs.Spelling.{Spells}
+use Rattle.gu_first.specs.Encoding.{encoding, IsPlain}
+use Rattle.gu_first.specs.Reading.{module_at, stops}
 use Rattle.gu_syntax.specs.declared.module.Module.{Module}
-use Rattle.gu_model.specs.Valid.{Valid, IsFirstFailure}
-use Rattle.gu_model.specs.Cut.{cut_module}
+use Rattle.gu_first.specs.Valid.{Valid, IsFirstFailure}
+use Rattle.gu_first.specs.Cut.{cut_module}
 use Rattle.gu_model.specs.declared.part.Part.{Part}
-use Rattle.gu_model.proofs.Cuts.{cut_is_same}
-use Rattle.gu_model.proofs.CutValid.{cut_is_valid}
-use Rattle.gu_model.proofs.Failures.{failure_is_one, valid_has_none}
-use Rattle.gu_model.proofs.Sames.{same_steps_is_same}
+use Rattle.gu_first.proofs.Cuts.{cut_is_same}
+use Rattle.gu_first.proofs.CutValid.{cut_is_valid}
+use Rattle.gu_first.proofs.Failures.{failure_is_one, valid_has_none}
+use Rattle.gu_first.proofs.Sames.{same_steps_is_same}
 use Rattle.wasm_gufa.specs.Read.{Stops}
 use Rattle.wasm_gufa.specs.Check.{Refuses}
 use Rattle.wasm_gufa.specs.Write.{BlamesLength}
@@ -26,11 +26,11 @@ use Rattle.wasm_gufa.specs.declared.status.Status.{Status}
 use Rattle.wasm_gufa.specs.declared.status.Status.TheVariants as S
 use Rattle.wasm_gufa.specs.declared.status.Which.{Which}
 use Rattle.wasm_gufa.specs.declared.status.Which.TheVariants as W
-use Rattle.gu_syntax.proofs.Bare.{spelled_bare, spelled_shaped}
-use Rattle.gu_syntax.proofs.Least.{encoding_spells}
-use Rattle.gu_syntax.proofs.Lengths.{encoding_least}
-use Rattle.gu_syntax.proofs.Modules.{one_module, module_unread}
-use Rattle.gu_model.proofs.CutShaped.{cut_shaped}
+use Rattle.gu_first.proofs.Bare.{spelled_bare, spelled_shaped}
+use Rattle.gu_first.proofs.Least.{encoding_spells}
+use Rattle.gu_first.proofs.Lengths.{encoding_least}
+use Rattle.gu_first.proofs.Modules.{one_module, module_unread}
+use Rattle.gu_first.proofs.CutShaped.{cut_shaped}
 use Rattle.wasm_gufa.proofs.Cutting.{cut_is_shorter}
 
 -- what is written of a short text is short

@@ -2,7 +2,7 @@
 use Rattle.std.proofs.Common.{ℕ, zero, suc, ◌≤◌, ◌<◌, ◌≡◌, refl, ap, ◌∙◌, sym, List, [], ◌∷◌, ◌++◌, length, nat_eq, false, arith}
 use Rattle.std.proofs.lemmas.Bool.{cond-false}
 use Rattle.gu_syntax.specs.Code.{Ins, Code, done, next, ins_of, code_of}
-use Rattle.gu_syntax.specs.Reading.{Read, got, stops, ◌>>=◌, instr_at, code_at}
+use Rattle.gu_first.specs.Reading.{Read, got, stops, ◌>>=◌, instr_at, code_at}
 use Rattle.gu_syntax.specs.declared.instr.Instr.{Instr}
 
 -- the instructions so far, before those behind them

@@ -5,8 +5,8 @@ use Rattle.gu_syntax.specs.declared.instr.Instr as I
 use Rattle.gu_syntax.specs.declared.instr.Instr.{Instr}
 use Rattle.gu_syntax.specs.Code.{Ins, Code, leaf, block, loop, choice, try_table, done, next, ins_of, code_of}
 use Rattle.gu_syntax.proofs.Back.{code_one}
-use Rattle.gu_model.specs.Cut.{leaves, leaves_ins, cut, cut_ins, cut_list}
-use Rattle.gu_model.proofs.Trees.{list_kept}
+use Rattle.gu_first.specs.Cut.{leaves, leaves_ins, cut, cut_ins, cut_list}
+use Rattle.gu_first.proofs.Trees.{list_kept}
 
 -- the list, and then the code
 abbrev pub with_front : List Instr → Code → Code

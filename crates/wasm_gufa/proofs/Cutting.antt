@@ -5,9 +5,10 @@ use Rattle.gu_bytes.specs.Numbers.{least_unsigned, shortest}
 use Rattle.gu_syntax.specs.declared.module.Func.{Func}
 use Rattle.gu_syntax.specs.declared.module.Module.{Module}
 use Rattle.gu_syntax.specs.Code.{Ins, Code, leaf, block, loop, choice, try_table, done, next, code_of}
-use Rattle.gu_syntax.specs.Encoding.{encoding, section, sized, encode_items, encode_vector, encode_type_index, encode_func, encode_code, encode_ins}
-use Rattle.gu_model.specs.Cut.{leaves_ins, cut, cut_ins, cut_func, cut_list, cut_module}
-use Rattle.gu_model.proofs.Trees.{list_kept}
+use Rattle.gu_first.specs.Encoding.{encoding, encode_func, encode_code, encode_ins}
+use Rattle.gu_syntax.specs.Encoding.{section, sized, encode_items, encode_vector, encode_type_index}
+use Rattle.gu_first.specs.Cut.{leaves_ins, cut, cut_ins, cut_func, cut_list, cut_module}
+use Rattle.gu_first.proofs.Trees.{list_kept}
 use Rattle.wasm_gufa.proofs.Whole.{length_whole}
 
 code_not_empty : (c : Code) → 0 < length (encode_code c)

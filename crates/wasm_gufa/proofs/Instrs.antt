@@ -3,7 +3,7 @@ use Rattle.std.proofs.Common.{ℕ, ◌≢◌, refl, ℤ}
 use Rattle.gu_syntax.specs.declared.instr.Instr.{Instr}
 use Rattle.gu_syntax.specs.declared.instr.Instr.TheVariants.{Unreachable, Nop, Return, Call, Drop, LocalGet, I32Const, Num}
 use Rattle.gu_syntax.specs.Code.{ins_of}
-use Rattle.gu_syntax.specs.Profile.{IsBareIns}
+use Rattle.gu_first.specs.Profile.{IsBareIns}
 
 -- every instruction of the profile is one of these
 pub bare_is_known : (i : Instr) → IsBareIns (ins_of i) → i ≢ Unreachable → i ≢ Nop → i ≢ Return → ((x : ℕ) → i ≢ Call x) → i ≢ Drop → ((x : ℕ) → i ≢ LocalGet x) → ((x : ℤ) → i ≢ I32Const x) → ((x : _) → i ≢ Num x) → ⊥

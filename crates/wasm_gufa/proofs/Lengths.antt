@@ -14,8 +14,9 @@ use Rattle.gu_syntax.specs.declared.module.Export.{Export}
 use Rattle.gu_syntax.specs.declared.module.Func.{Func}
 use Rattle.gu_syntax.specs.declared.module.Kind.TheVariants as K
 use Rattle.gu_syntax.specs.Code.{code_of, ins_of}
-use Rattle.gu_syntax.specs.Profile.{IsBareComp, IsBareGroup, IsBareFunc, IsBareCode, IsBareIns}
-use Rattle.gu_syntax.specs.Encoding.{encode_items, encode_vector, encode_val_type, encode_comp, encode_types, encode_group, encode_type_index, encode_name, encode_export, encode_func, encode_code, encode_ins, sized}
+use Rattle.gu_first.specs.Profile.{IsBareComp, IsBareGroup, IsBareFunc, IsBareCode, IsBareIns}
+use Rattle.gu_syntax.specs.Encoding.{encode_items, encode_vector, encode_type_index, encode_name, sized}
+use Rattle.gu_first.specs.Encoding.{encode_val_type, encode_comp, encode_types, encode_group, encode_export, encode_func, encode_code, encode_ins}
 
 cond_not_empty : (test : _) (xs ys : List ℕ) → 0 < length xs → 0 < length ys → 0 < length (cond test xs ys)
 cond_not_empty true xs ys h i = h

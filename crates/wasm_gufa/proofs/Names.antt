@@ -9,7 +9,7 @@ use Rattle.std.proofs.lemmas.List.Folds.{list_any_more}
 use Rattle.std.proofs.lemmas.Option.{slice_get_within}
 use Rattle.gu_syntax.specs.declared.module.Export.{Export}
 use Rattle.gu_syntax.specs.declared.module.Module.{Module}
-use Rattle.gu_model.specs.Valid.{ExportHolds, IsThere, EachBelow}
+use Rattle.gu_first.specs.Valid.{ExportHolds, IsThere, EachBelow}
 use Rattle.std.proofs.lemmas.Bool.{or_parts, ltb-true, ltb-false}
 use Rattle.std.proofs.lemmas.List.{length-take}
 use Rattle.wasm_gufa.proofs.Signatures.{slice_get-take}

@@ -4,7 +4,7 @@ use Rattle.std.specs.Str.{is_utf8, IsUtf8}
 use Rattle.std.proofs.lemmas.Str.{is_utf8-from_IsUtf8, IsUtf8-from_is_utf8}
 use Rattle.std.proofs.lemmas.Bool.{cases_Bool}
 use Rattle.gu_bytes.specs.Reading.{unsigned_at}
-use Rattle.gu_syntax.specs.Reading.{Read, got, stops, ◌>>=◌, number, utf8_at, name_at, entries_at, fixed_at}
+use Rattle.gu_first.specs.Reading.{Read, got, stops, ◌>>=◌, number, utf8_at, name_at, entries_at, fixed_at}
 use Rattle.gu_syntax.specs.declared.module.Func.{Func}
 use Rattle.wasm_gufa.specs.declared.read.Stop.{Stop}
 use Rattle.wasm_gufa.specs.declared.read.Stop.TheVariants as S

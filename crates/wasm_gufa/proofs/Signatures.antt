@@ -6,8 +6,8 @@ use Rattle.std.proofs.lemmas.Option.{slice_get_past, slice_get-get_or, slice_get
 use Rattle.std.proofs.lemmas.List.{length-map, length-take}
 use Rattle.gu_syntax.specs.declared.module.Func.{Func}
 use Rattle.gu_syntax.specs.declared.module.Module.{Module}
-use Rattle.gu_model.specs.Index.{FuncType, func_type, type_of, type_at}
-use Rattle.gu_model.specs.Valid.{FuncHolds, EachBelow, IsFirstWithout}
+use Rattle.gu_first.specs.Index.{FuncType, func_type, type_of, type_at}
+use Rattle.gu_first.specs.Valid.{FuncHolds, EachBelow, IsFirstWithout}
 use Rattle.wasm_gufa.specs.declared.check.context.Signature.{Signature}
 use Rattle.wasm_gufa.specs.declared.check.context.Context.{Context}
 use Rattle.wasm_gufa.specs.Context.{func_type_of, IsSigned}

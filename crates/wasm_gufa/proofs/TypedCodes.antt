@@ -7,10 +7,10 @@ use Rattle.gu_syntax.specs.declared.instr.Instr.{Instr}
 use Rattle.gu_syntax.specs.declared.module.Func.{Func}
 use Rattle.gu_syntax.specs.declared.module.Module.{Module}
 use Rattle.gu_syntax.specs.Code.{code_of}
-use Rattle.gu_model.specs.Index.{FuncType, type_at}
-use Rattle.gu_model.specs.Typing.{is_typed}
-use Rattle.gu_syntax.specs.Profile.{IsBareFunc}
-use Rattle.gu_model.specs.Valid.{FuncHolds, CodeHolds, EachBelow, IsFirstWithout}
+use Rattle.gu_first.specs.Index.{FuncType, type_at}
+use Rattle.gu_first.specs.Typing.{is_typed}
+use Rattle.gu_first.specs.Profile.{IsBareFunc}
+use Rattle.gu_first.specs.Valid.{FuncHolds, CodeHolds, EachBelow, IsFirstWithout}
 use Rattle.wasm_gufa.specs.declared.check.context.Signature.{Signature}
 use Rattle.wasm_gufa.specs.declared.check.context.Context.{Context}
 use Rattle.wasm_gufa.specs.Context.{func_type_of, IsSigned}

@@ -1,6 +1,6 @@
 -- Items that are read one by one.
 use Rattle.std.proofs.Common.{ℕ, suc, ◌+◌, ◌-◌, ◌<◌, ◌≡◌, refl, ap, ◌∙◌, sym, List, [], ◌∷◌, ◌++◌, append_assoc, arith}
-use Rattle.gu_syntax.specs.Reading.{Read, got, stops, ◌>>=◌, items_at}
+use Rattle.gu_first.specs.Reading.{Read, got, stops, ◌>>=◌, items_at}
 
 -- the items so far, before what is read of the others
 abbrev pub behind : {X : Type 0} → List X → Read (List X) → Read (List X)

@@ -4,8 +4,9 @@ use Rattle.gu_types.specs.declared.types.RecGroup.{RecGroup}
 use Rattle.gu_syntax.specs.declared.module.Export.{Export}
 use Rattle.gu_syntax.specs.declared.module.Func.{Func}
 use Rattle.gu_syntax.specs.declared.module.Module.{Module}
-use Rattle.gu_syntax.specs.Spelling.{header}
-use Rattle.gu_syntax.specs.Encoding.{encoding, section, encode_group, encode_type_index, encode_export, encode_func}
+use Rattle.gu_syntax.specs.Module.{header}
+use Rattle.gu_first.specs.Encoding.{encoding, encode_group, encode_export, encode_func}
+use Rattle.gu_syntax.specs.Encoding.{section, encode_type_index}
 
 in_order : (h a b c d : List ℕ) → (((h ++ a) ++ b) ++ c) ++ d ≡ h ++ (a ++ (b ++ (c ++ d)))
 in_order h a b c d = simp append_assoc

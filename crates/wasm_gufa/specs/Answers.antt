@@ -3,14 +3,14 @@ use Rattle.std.specs.Prelude.{ℕ, ◌≡◌, ◌<◌, ◌≤◌, ◌+◌, ◌�
 use Rattle.gu_outside.specs.Outside.{Appended, PrefixAdded}
 use Rattle.gu_outside.specs.declared.read.ReadError.{ReadError}
 use Rattle.gu_outside.specs.declared.read.ReadError.TheVariants as R
-use Rattle.gu_syntax.specs.Spelling.{Spells}
-use Rattle.gu_syntax.specs.Profile.{InFirstProfile}
-use Rattle.gu_syntax.specs.Encoding.{encoding}
-use Rattle.gu_syntax.specs.Reading.{module_at, stops}
+use Rattle.gu_first.specs.Spelling.{Spells}
+use Rattle.gu_first.specs.Profile.{InFirstProfile}
+use Rattle.gu_first.specs.Encoding.{encoding}
+use Rattle.gu_first.specs.Reading.{module_at, stops}
 use Rattle.gu_syntax.specs.declared.module.Module.{Module}
-use Rattle.gu_model.specs.Valid.{Valid, IsFirstFailure}
-use Rattle.gu_model.specs.Cut.{cut_module}
-use Rattle.gu_model.specs.Same.{Same, SameSteps}
+use Rattle.gu_first.specs.Valid.{Valid, IsFirstFailure}
+use Rattle.gu_first.specs.Cut.{cut_module}
+use Rattle.gu_first.specs.Same.{Same, SameSteps}
 use Rattle.gu_model.specs.declared.part.Part.{Part}
 use Rattle.wasm_gufa.specs.declared.check.ValidErr.{ValidErr}
 use Rattle.wasm_gufa.specs.declared.check.ValidErr.TheVariants as V

@@ -1,8 +1,8 @@
 -- What checking a module answers.
 use Rattle.std.specs.Prelude.{ℕ, ◌≡◌, Bool, true, false, Option, Some, None}
 use Rattle.gu_syntax.specs.declared.module.Module.{Module}
-use Rattle.gu_model.specs.Typing.{Shape}
-use Rattle.gu_model.specs.Valid.{EachBelow, IsFirstWithout, IsFirstFailure}
+use Rattle.gu_first.specs.Typing.{Shape}
+use Rattle.gu_first.specs.Valid.{EachBelow, IsFirstWithout, IsFirstFailure}
 use Rattle.wasm_gufa.specs.declared.check.ValidErr.{ValidErr}
 use Rattle.wasm_gufa.specs.declared.check.ValidErr.TheVariants.{Invalid, NoMemory}
 

@@ -1,7 +1,7 @@
 -- What bodies are typed in (core specification 3.0, 3.1.3 Contexts).
 use Rattle.std.specs.Prelude.{◌≡◌, Some, map}
 use Rattle.gu_syntax.specs.declared.module.Func.{Func}
-use Rattle.gu_model.specs.Index.{FuncType, func_type}
+use Rattle.gu_first.specs.Index.{FuncType, func_type}
 use Rattle.wasm_gufa.specs.declared.check.context.Signature.{Signature}
 use Rattle.wasm_gufa.specs.declared.check.context.Context.{Context}
 

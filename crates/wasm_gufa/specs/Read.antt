@@ -2,7 +2,7 @@
 -- Binary Format).
 use Rattle.std.specs.Prelude.{ℕ, ◌+◌, ◌≡◌, List, [], length, take, drop, nat_lt, if◌then◌else◌, Result, Ok, Err}
 use Rattle.std.specs.Borrow.{Bor}
-use Rattle.gu_syntax.specs.Reading.{Read, got, stops, ◌>>=◌, u32_at, module_at}
+use Rattle.gu_first.specs.Reading.{Read, got, stops, ◌>>=◌, u32_at, module_at}
 use Rattle.wasm_gufa.specs.declared.read.ReadErr.{ReadErr}
 use Rattle.wasm_gufa.specs.declared.read.ReadErr.TheVariants as E
 use Rattle.wasm_gufa.specs.declared.read.Stop.{Stop}

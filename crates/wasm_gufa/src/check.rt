@@ -5,9 +5,9 @@ mod exports;
 mod operands;
 
 ghost use Rattle.std.specs.Prelude.{◌≡◌, ◌<◌, ◌^◌, length, OnOk, IfErr};
-ghost use Rattle.gu_syntax.specs.Encoding.{IsShaped};
-ghost use Rattle.gu_syntax.specs.Profile.{InFirstProfile};
-ghost use Rattle.gu_model.specs.Valid.{Valid};
+ghost use Rattle.gu_first.specs.Encoding.{IsShaped};
+ghost use Rattle.gu_first.specs.Profile.{InFirstProfile};
+ghost use Rattle.gu_first.specs.Valid.{Valid};
 ghost use Rattle.wasm_gufa.specs.Check.{Refuses};
 ghost use Rattle.wasm_gufa.specs.declared.check.ValidErr.TheVariants.{NoMemory};
 

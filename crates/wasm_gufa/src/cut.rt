@@ -1,7 +1,7 @@
 //! Removing the code that no run comes to.
 ghost use Rattle.std.specs.Prelude.{◌≡◌, map, take};
 ghost use Rattle.gu_syntax.specs.Code.{ins_of, code_of};
-ghost use Rattle.gu_model.specs.Cut as dead;
+ghost use Rattle.gu_first.specs.Cut as dead;
 
 use gu_syntax::{Body, Func, Instr, Module};
 

@@ -3,11 +3,11 @@
 //! function below reads what stands at the front of some bytes and gives the bytes behind it.
 ghost use Rattle.std.specs.Prelude.{◌≡◌, ◌+◌, ◌<◌, ◌≤◌, ◌^◌, [], ◌∷◌, List, ℕ, length, IfOk, IfErr};
 ghost use Rattle.gu_syntax.specs.Code.{code_of, ins_of};
-ghost use Rattle.gu_syntax.specs.Spelling.{header};
-ghost use Rattle.gu_syntax.specs.Reading.{Read, got, whole, section_at, vector_at, fixed_at, end_at};
-ghost use Rattle.gu_syntax.specs.Reading.{u32_at, s32_at, val_type_at, func_type_at, group_at};
-ghost use Rattle.gu_syntax.specs.Reading.{name_at, export_at, instr_at, expression_at, func_at};
-ghost use Rattle.gu_syntax.specs.Reading.{entry_at, bodies_at, bare_module, sections_at, module_at};
+ghost use Rattle.gu_syntax.specs.Module.{header};
+ghost use Rattle.gu_first.specs.Reading.{Read, got, whole, section_at, vector_at, fixed_at, end_at};
+ghost use Rattle.gu_first.specs.Reading.{u32_at, s32_at, val_type_at, func_type_at, group_at};
+ghost use Rattle.gu_first.specs.Reading.{name_at, export_at, instr_at, expression_at, func_at};
+ghost use Rattle.gu_first.specs.Reading.{entry_at, bodies_at, bare_module, sections_at, module_at};
 ghost use Rattle.wasm_gufa.specs.Read.{Stops, Gives, GivesAs, GivesAll, GivesRest};
 ghost use Rattle.wasm_gufa.specs.Read.{left_at, left_of, left_behind, content};
 
@@ -76,7 +76,7 @@ trait Item: Sized + Drop {
 
 /// An index, or another unsigned integer of 32 bits (5.2.2 Integers, 5.5.1 Indices).
 impl Item for u32 {
-    ghost use Rattle.gu_syntax.specs.Reading.{u32_at};
+    ghost use Rattle.gu_first.specs.Reading.{u32_at};
 
     ghost at = { u32_at };
 
@@ -126,7 +126,7 @@ fn read_vector<T: Item>(alloc: Global, bytes: &[u8]) -> Result<(List<T>, &[u8]),
 
 /// A value type, of which the profile has i32 (5.3.4 Value Types).
 impl Item for ValType {
-    ghost use Rattle.gu_syntax.specs.Reading.{val_type_at};
+    ghost use Rattle.gu_first.specs.Reading.{val_type_at};
 
     ghost at = { val_type_at };
 
@@ -141,7 +141,7 @@ impl Item for ValType {
 /// A recursion group of one function type, which is final and has no supertype (5.3.10 Composite
 /// Types, 5.3.11 Recursive Types).
 impl Item for RecGroup {
-    ghost use Rattle.gu_syntax.specs.Reading.{group_at};
+    ghost use Rattle.gu_first.specs.Reading.{group_at};
 
     ghost at = { group_at };
 
@@ -171,7 +171,7 @@ fn read_func_type(alloc: Global, bytes: &[u8]) -> Result<(RecGroup, &[u8]), Stop
 
 /// An export of a function (5.5.10 Export Section).
 impl Item for Export {
-    ghost use Rattle.gu_syntax.specs.Reading.{export_at};
+    ghost use Rattle.gu_first.specs.Reading.{export_at};
 
     ghost at = { export_at };
 

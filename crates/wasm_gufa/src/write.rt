@@ -4,8 +4,9 @@ ghost use Rattle.std.specs.List.{AllByRecursion};
 ghost use Rattle.gu_bytes.specs.Numbers.{least_unsigned, least_signed};
 ghost use Rattle.gu_types.specs.declared.types.ValType.TheVariants.{I32};
 ghost use Rattle.gu_syntax.specs.Code.{code_of, ins_of};
-ghost use Rattle.gu_syntax.specs.Profile.{InFirstProfile, IsBareComp, IsBareGroup, IsBareFunc, IsBareCode, IsBareIns};
-ghost use Rattle.gu_syntax.specs.Encoding.{encoding, encode_vector, encode_code, encode_ins, encode_comp, sized, section};
+ghost use Rattle.gu_first.specs.Profile.{InFirstProfile, IsBareComp, IsBareGroup, IsBareFunc, IsBareCode, IsBareIns};
+ghost use Rattle.gu_first.specs.Encoding.{encoding, encode_code, encode_ins, encode_comp};
+ghost use Rattle.gu_syntax.specs.Encoding.{encode_vector, sized, section};
 ghost use Rattle.wasm_gufa.specs.Write.{BlamesLength};
 
 use gu_bytes::{put_s32, put_u32};
@@ -147,7 +148,7 @@ struct ValTypeForm;
 impl Form<ValType> for ValTypeForm {
     ghost use Rattle.std.specs.Prelude.{◌≡◌};
     ghost use Rattle.gu_types.specs.declared.types.ValType.TheVariants.{I32};
-    ghost use Rattle.gu_syntax.specs.Encoding.{encode_val_type};
+    ghost use Rattle.gu_first.specs.Encoding.{encode_val_type};
 
     ghost text = { encode_val_type };
 
@@ -163,8 +164,8 @@ impl Form<ValType> for ValTypeForm {
 struct GroupForm;
 
 impl Form<RecGroup> for GroupForm {
-    ghost use Rattle.gu_syntax.specs.Profile.{IsBareGroup};
-    ghost use Rattle.gu_syntax.specs.Encoding.{encode_group};
+    ghost use Rattle.gu_first.specs.Profile.{IsBareGroup};
+    ghost use Rattle.gu_first.specs.Encoding.{encode_group};
 
     ghost text = { encode_group };
 
@@ -198,7 +199,7 @@ fn put_comp(alloc: Global, out: &mut Vec<u8>, comp: &Comp) -> Result<(), WriteEr
 struct TypeIndexForm;
 
 impl Form<Func> for TypeIndexForm {
-    ghost use Rattle.gu_syntax.specs.Profile.{IsBareFunc};
+    ghost use Rattle.gu_first.specs.Profile.{IsBareFunc};
     ghost use Rattle.gu_syntax.specs.Encoding.{encode_type_index};
 
     ghost text = { encode_type_index };
@@ -217,7 +218,7 @@ struct ExportForm;
 impl Form<Export> for ExportForm {
     ghost use Rattle.std.specs.Prelude.{◌≡◌};
     ghost use Rattle.gu_syntax.specs.declared.module.Kind.TheVariants.{Func};
-    ghost use Rattle.gu_syntax.specs.Encoding.{encode_export};
+    ghost use Rattle.gu_first.specs.Encoding.{encode_export};
 
     ghost text = { encode_export };
 
@@ -235,8 +236,8 @@ impl Form<Export> for ExportForm {
 struct CodeForm;
 
 impl Form<Func> for CodeForm {
-    ghost use Rattle.gu_syntax.specs.Profile.{IsBareFunc};
-    ghost use Rattle.gu_syntax.specs.Encoding.{encode_func};
+    ghost use Rattle.gu_first.specs.Profile.{IsBareFunc};
+    ghost use Rattle.gu_first.specs.Encoding.{encode_func};
 
     ghost text = { encode_func };
 

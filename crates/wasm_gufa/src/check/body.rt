@@ -3,11 +3,11 @@
 ghost use Rattle.std.specs.Prelude.{◌≡◌, ◌<◌, ◌^◌, [], length, slice_get, IfOk};
 ghost use Rattle.std.specs.List.{AllByRecursion};
 ghost use Rattle.gu_syntax.specs.Code.{ins_of, code_of};
-ghost use Rattle.gu_model.specs.Index.{type_at};
-ghost use Rattle.gu_model.specs.Typing.{around, type_ins};
-ghost use Rattle.gu_model.specs.Typing as typing;
-ghost use Rattle.gu_syntax.specs.Profile.{IsBareFunc};
-ghost use Rattle.gu_model.specs.Valid.{CodeHolds};
+ghost use Rattle.gu_first.specs.Index.{type_at};
+ghost use Rattle.gu_first.specs.Typing.{around, type_ins};
+ghost use Rattle.gu_first.specs.Typing as typing;
+ghost use Rattle.gu_first.specs.Profile.{IsBareFunc};
+ghost use Rattle.gu_first.specs.Valid.{CodeHolds};
 ghost use Rattle.wasm_gufa.specs.Check.{Did, FindsFirstWithout};
 ghost use Rattle.wasm_gufa.specs.Context.{func_type_of, IsSigned};
 

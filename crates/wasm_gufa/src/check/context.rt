@@ -1,6 +1,6 @@
 //! What bodies are typed in: the types of the functions (core specification 3.0, 3.1.3 Contexts).
 ghost use Rattle.std.specs.Prelude.{◌≡◌, ◌<◌, ◌^◌, ◌++◌, map, length, slice_get, option_map, IfOk, IfErr, OnOk};
-ghost use Rattle.gu_model.specs.Index.{of_subtype, types_in, type_at};
+ghost use Rattle.gu_first.specs.Index.{of_subtype, types_in, type_at};
 ghost use Rattle.wasm_gufa.specs.Check.{Refuses};
 ghost use Rattle.wasm_gufa.specs.Context.{func_type_of, IsSigned};
 

@@ -1,6 +1,6 @@
 //! Whether the exports of a module hold (core specification 3.0, 3.5.10 Exports, 3.5.13 Modules).
 ghost use Rattle.std.specs.Prelude.{◌≡◌, ◌<◌, ◌^◌, ◌↔◌, length, IfOk, IsTrue};
-ghost use Rattle.gu_model.specs.Valid.{ExportHolds, IsThere};
+ghost use Rattle.gu_first.specs.Valid.{ExportHolds, IsThere};
 ghost use Rattle.wasm_gufa.specs.Check.{FindsFirstWithout};
 
 use gu_syntax::{Kind, Module};

@@ -1,7 +1,7 @@
 //! The operands of a body that is being typed (core specification 3.0, Appendix, Validation
 //! Algorithm).
 ghost use Rattle.std.specs.Prelude.{◌≡◌, [], false, Some, OnOk};
-ghost use Rattle.gu_model.specs.Typing.{pop_any, pop_type, pops, push, pushes, stop, ends, below};
+ghost use Rattle.gu_first.specs.Typing.{pop_any, pop_type, pops, push, pushes, stop, ends, below};
 ghost use Rattle.wasm_gufa.specs.Check.{Did};
 
 use gu_types::ValType;
@@ -18,7 +18,7 @@ pub(crate) struct Operands {
 
 impl Model for Operands {
     ghost use Rattle.std.specs.Prelude.{map, reverse};
-    ghost use Rattle.gu_model.specs.Typing.{Shape, of};
+    ghost use Rattle.gu_first.specs.Typing.{Shape, of};
 
     ghost Value = { Shape };
 

@@ -1,5 +1,5 @@
-use Rattle.gu_syntax.proofs.Least.{encoding_spells}
 use Rattle.gu_syntax.proofs.Modules.{one_module}
+use Rattle.gu_syntax.proofs.Writing.{encoding_spells}
 use Rattle.gu_syntax.proofs.laws.one_reading.Goals as goal
 
 pub returns : goal.returns

@@ -1,5 +1,5 @@
 use Rattle.std.proofs.Common.{length}
-use Rattle.gu_model.specs.Valid.{ExportHolds}
+use Rattle.gu_first.specs.Valid.{ExportHolds}
 use Rattle.wasm_gufa.proofs.TypedCodes.{found_none, found_some, funcs_hold, codes_hold, code_first}
 use Rattle.wasm_gufa.proofs.check.check_module.Goals as goal
 

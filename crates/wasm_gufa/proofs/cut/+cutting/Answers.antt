@@ -1,5 +1,5 @@
 use Rattle.std.proofs.Common.{rules, ap, ◌∙◌, sym, arith}
-use Rattle.gu_model.specs.Cut.{cut_ins}
+use Rattle.gu_first.specs.Cut.{cut_ins}
 use Rattle.gu_syntax.proofs.Shapes.{ins_of-leaf}
 use Rattle.wasm_gufa.proofs.CutStep.{goes_on, stops, ends}
 use Rattle.wasm_gufa.proofs.cut.+cutting.Goals as goal

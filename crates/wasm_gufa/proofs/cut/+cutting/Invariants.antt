@@ -1,6 +1,6 @@
 use Rattle.std.proofs.Common.{◌≡◌}
 use Rattle.gu_syntax.specs.Code.{code_of}
-use Rattle.gu_model.specs.Cut.{cut}
+use Rattle.gu_first.specs.Cut.{cut}
 use Rattle.wasm_gufa.proofs.CutStep.{So}
 use Rattle.wasm_gufa.proofs.cut.+cutting.Given as goal
 

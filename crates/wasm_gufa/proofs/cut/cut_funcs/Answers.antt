@@ -1,5 +1,5 @@
 use Rattle.std.proofs.Common.{arith}
-use Rattle.gu_model.specs.Cut.{cut_func}
+use Rattle.gu_first.specs.Cut.{cut_func}
 use Rattle.wasm_gufa.proofs.CutStep.{changes, changed}
 use Rattle.wasm_gufa.proofs.cut.cut_funcs.Goals as goal
 

@@ -1,5 +1,5 @@
 use Rattle.std.proofs.Common.{map}
-use Rattle.gu_model.specs.Cut.{cut_func}
+use Rattle.gu_first.specs.Cut.{cut_func}
 use Rattle.wasm_gufa.proofs.CutStep.{Changed}
 use Rattle.wasm_gufa.proofs.cut.cut_funcs.Given as goal
 

@@ -1,5 +1,5 @@
 use Rattle.std.proofs.Common.{◌≤◌, length, drop}
-use Rattle.gu_syntax.specs.Reading.{bodies_at}
+use Rattle.gu_first.specs.Reading.{bodies_at}
 use Rattle.wasm_gufa.proofs.Parts.{ReadsEntries}
 use Rattle.wasm_gufa.proofs.read.read_bodies.Given as goal
 

@@ -1,5 +1,5 @@
 use Rattle.std.proofs.Common.{arith}
-use Rattle.gu_syntax.specs.Reading.{expression_at}
+use Rattle.gu_first.specs.Reading.{expression_at}
 use Rattle.wasm_gufa.proofs.Codes.{code_begins, code_ends, code_goes_on}
 use Rattle.wasm_gufa.proofs.read.read_body.Goals as goal
 

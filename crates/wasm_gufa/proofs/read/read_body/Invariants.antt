@@ -1,5 +1,5 @@
 use Rattle.std.proofs.Common.{◌≤◌, length}
-use Rattle.gu_syntax.specs.Reading.{expression_at}
+use Rattle.gu_first.specs.Reading.{expression_at}
 use Rattle.wasm_gufa.proofs.Codes.{ReadsCode}
 use Rattle.wasm_gufa.proofs.read.read_body.Given as goal
 

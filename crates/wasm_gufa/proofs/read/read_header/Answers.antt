@@ -1,8 +1,8 @@
 use Rattle.std.proofs.Common.{arith, refl}
 use Rattle.std.proofs.lemmas.List.{drop_more}
 use Rattle.std.proofs.lemmas.Result.{err_from_is_err_and}
-use Rattle.gu_syntax.specs.Spelling.{header}
-use Rattle.gu_syntax.specs.Reading.{fixed_at}
+use Rattle.gu_syntax.specs.Module.{header}
+use Rattle.gu_first.specs.Reading.{fixed_at}
 use Rattle.wasm_gufa.proofs.Parts.{passes_on, passes_fail}
 use Rattle.wasm_gufa.proofs.read.read_header.Goals as goal
 

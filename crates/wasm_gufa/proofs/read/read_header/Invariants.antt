@@ -1,6 +1,6 @@
 use Rattle.std.proofs.Common.{◌≡◌, ◌≤◌, length, drop}
-use Rattle.gu_syntax.specs.Spelling.{header}
-use Rattle.gu_syntax.specs.Reading.{fixed_at}
+use Rattle.gu_syntax.specs.Module.{header}
+use Rattle.gu_first.specs.Reading.{fixed_at}
 use Rattle.wasm_gufa.proofs.Parts.{Passes}
 use Rattle.wasm_gufa.proofs.read.read_header.Given as goal
 

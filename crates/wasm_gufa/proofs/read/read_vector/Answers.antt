@@ -1,5 +1,5 @@
 use Rattle.std.proofs.Common.{arith}
-use Rattle.gu_syntax.specs.Reading.{vector_at}
+use Rattle.gu_first.specs.Reading.{vector_at}
 use Rattle.wasm_gufa.proofs.Vectors.{goes_on}
 use Rattle.wasm_gufa.proofs.read.read_vector.Goals as goal
 

@@ -1,5 +1,5 @@
 use Rattle.std.proofs.Common.{◌≤◌, length}
-use Rattle.gu_syntax.specs.Reading.{vector_at}
+use Rattle.gu_first.specs.Reading.{vector_at}
 use Rattle.wasm_gufa.proofs.Vectors.{Reads}
 use Rattle.wasm_gufa.proofs.read.read_vector.Given as goal
 

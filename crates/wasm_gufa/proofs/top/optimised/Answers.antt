@@ -1,13 +1,13 @@
 use Rattle.std.proofs.Common.{◌≡◌, [], sym, subst}
-use Rattle.gu_syntax.specs.Encoding.{encoding}
-use Rattle.gu_syntax.specs.Profile.{InFirstProfile}
-use Rattle.gu_syntax.specs.Spelling.{Spells}
+use Rattle.gu_first.specs.Encoding.{encoding}
+use Rattle.gu_first.specs.Profile.{InFirstProfile}
+use Rattle.gu_first.specs.Spelling.{Spells}
 use Rattle.gu_syntax.specs.declared.module.Module.{Module}
 use Rattle.wasm_gufa.specs.Answers.{Blames, of_reader, of_check, of_writer}
 use Rattle.wasm_gufa.specs.Write.{BlamesLength}
-use Rattle.gu_syntax.proofs.Bare.{spelled_bare, spelled_shaped, spelled_counted}
-use Rattle.gu_syntax.proofs.Modules.{module_read}
-use Rattle.gu_model.proofs.CutValid.{cut_is_valid}
+use Rattle.gu_first.proofs.Bare.{spelled_bare, spelled_shaped, spelled_counted}
+use Rattle.gu_first.proofs.Modules.{module_read}
+use Rattle.gu_first.proofs.CutValid.{cut_is_valid}
 use Rattle.wasm_gufa.proofs.Causes.{err_from, blames_reader, blames_check, blames_writer}
 use Rattle.wasm_gufa.proofs.top.optimised.Goals as goal
 

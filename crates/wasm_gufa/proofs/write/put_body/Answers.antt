@@ -1,7 +1,7 @@
 use Rattle.std.proofs.Common.{List, arith, sym, subst}
 use Rattle.gu_syntax.specs.declared.instr.Instr.{Instr}
 use Rattle.gu_syntax.specs.Code.{code_of, ins_of}
-use Rattle.gu_syntax.specs.Profile.{IsBareCode, IsBareIns}
+use Rattle.gu_first.specs.Profile.{IsBareCode, IsBareIns}
 use Rattle.wasm_gufa.proofs.Lengths.{bare_at}
 use Rattle.wasm_gufa.proofs.write.put_body.Goals as goal
 

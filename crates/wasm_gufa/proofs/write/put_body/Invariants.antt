@@ -1,6 +1,6 @@
 use Rattle.std.proofs.Common.{◌≡◌, ◌++◌, drop}
 use Rattle.gu_syntax.specs.Code.{code_of}
-use Rattle.gu_syntax.specs.Encoding.{encode_code}
+use Rattle.gu_first.specs.Encoding.{encode_code}
 use Rattle.wasm_gufa.proofs.write.put_body.Given as goal
 
 abbrev pub invariant-instrs : goal.invariant-instrs

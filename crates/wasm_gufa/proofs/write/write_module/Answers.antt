@@ -1,6 +1,7 @@
 use Rattle.std.proofs.Common.{rules, arith, ◌≡◌, ◌≤◌, length}
 use Rattle.std.proofs.lemmas.Grind.{common_steps}
-use Rattle.gu_syntax.specs.Encoding.{encoding, section, encode_group, encode_type_index, encode_export, encode_func}
+use Rattle.gu_first.specs.Encoding.{encoding, encode_group, encode_export, encode_func}
+use Rattle.gu_syntax.specs.Encoding.{section, encode_type_index}
 use Rattle.wasm_gufa.proofs.Lengths.{all_more, type_index_not_empty, export_not_empty, func_not_empty}
 use Rattle.wasm_gufa.proofs.Whole.{together, types_within, indices_within, exports_within, bodies_within}
 use Rattle.wasm_gufa.proofs.write.write_module.Goals as goal

@@ -1,7 +1,7 @@
 use Rattle.std.proofs.Common.{◌≡◌, slice_get, Some}
 use Rattle.std.proofs.lemmas.Option.{slice_get_within}
-use Rattle.gu_model.specs.Index.{type_at}
-use Rattle.gu_model.specs.Valid.{CodeHolds}
+use Rattle.gu_first.specs.Index.{type_at}
+use Rattle.gu_first.specs.Valid.{CodeHolds}
 use Rattle.wasm_gufa.specs.Context.{func_type_of}
 use Rattle.wasm_gufa.proofs.Signatures.{at_place}
 use Rattle.wasm_gufa.proofs.Names.{each_more}

@@ -1,6 +1,6 @@
 use Rattle.std.proofs.Common.{◌≡◌, [], drop, false}
 use Rattle.gu_syntax.specs.Code.{code_of}
-use Rattle.gu_model.specs.Typing.{around, type_code}
+use Rattle.gu_first.specs.Typing.{around, type_code}
 use Rattle.wasm_gufa.specs.Context.{func_type_of}
 use Rattle.wasm_gufa.proofs.check.body.is_typed.Given as goal
 

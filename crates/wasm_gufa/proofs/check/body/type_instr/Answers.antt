@@ -1,5 +1,5 @@
 use Rattle.std.proofs.Common.{[]}
-use Rattle.gu_model.specs.Typing.{around}
+use Rattle.gu_first.specs.Typing.{around}
 use Rattle.wasm_gufa.specs.Context.{func_type_of}
 use Rattle.wasm_gufa.proofs.Bodies.{untyped}
 use Rattle.wasm_gufa.proofs.check.body.type_instr.Goals as goal

@@ -1,5 +1,5 @@
 use Rattle.std.proofs.Common.{◌≡◌, ◌++◌, map, drop}
-use Rattle.gu_model.specs.Index.{types_in}
+use Rattle.gu_first.specs.Index.{types_in}
 use Rattle.wasm_gufa.proofs.check.context.types_of.Given as goal
 
 abbrev pub invariant-loop-group : goal.invariant-loop-group

@@ -1,7 +1,7 @@
 use Rattle.std.proofs.Common.{◌≡◌, ◌∙◌, ap, sym, get_or, slice_get, List, Some, true, false, refl}
 use Rattle.std.proofs.lemmas.Option.{slice_get_within}
 use Rattle.gu_syntax.specs.declared.module.Export.{Export}
-use Rattle.gu_model.specs.Valid.{ExportHolds}
+use Rattle.gu_first.specs.Valid.{ExportHolds}
 use Rattle.wasm_gufa.proofs.Signatures.{at_place}
 use Rattle.wasm_gufa.proofs.Names.{named_more, export_holds, name_taken, not_there, each_more}
 use Rattle.wasm_gufa.proofs.check.exports.first_failing.Goals as goal

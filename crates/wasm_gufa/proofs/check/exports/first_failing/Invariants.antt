@@ -1,5 +1,5 @@
 use Rattle.std.proofs.Common.{take}
-use Rattle.gu_model.specs.Valid.{ExportHolds, EachBelow}
+use Rattle.gu_first.specs.Valid.{ExportHolds, EachBelow}
 use Rattle.wasm_gufa.proofs.Names.{HasNames}
 use Rattle.wasm_gufa.proofs.check.exports.first_failing.Given as goal
 

@@ -1,6 +1,6 @@
 use Rattle.std.proofs.Common.{◌∙◌, ap, sym, map, slice_get, List, Bor}
 use Rattle.gu_types.specs.declared.types.SubType.{SubType}
-use Rattle.gu_model.specs.Index.{of_subtype, types_in}
+use Rattle.gu_first.specs.Index.{of_subtype, types_in}
 use Rattle.wasm_gufa.specs.Context.{func_type_of}
 use Rattle.wasm_gufa.proofs.Signatures.{first_unsigned, none_of}
 use Rattle.wasm_gufa.proofs.check.context.Context.new.Goals as goal

@@ -1,5 +1,5 @@
 use Rattle.std.proofs.Common.{◌≡◌, length}
-use Rattle.gu_model.specs.Typing.{pops}
+use Rattle.gu_first.specs.Typing.{pops}
 use Rattle.wasm_gufa.proofs.check.operands.Operands.pop_all.Given as goal
 
 abbrev pub invariant-wants : goal.invariant-wants

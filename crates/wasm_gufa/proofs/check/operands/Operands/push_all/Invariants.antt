@@ -1,5 +1,5 @@
 use Rattle.std.proofs.Common.{◌≡◌, drop}
-use Rattle.gu_model.specs.Typing.{pushes}
+use Rattle.gu_first.specs.Typing.{pushes}
 use Rattle.wasm_gufa.proofs.check.operands.Operands.push_all.Given as goal
 
 abbrev pub invariant-loop-ty : goal.invariant-loop-ty

@@ -1,0 +1,14 @@
+pub mod Spelling
+pub mod Profile
+pub mod Encoding
+pub mod Reading
+pub mod Index
+pub mod Cut
+pub mod Value
+pub mod Script
+pub mod Run
+pub mod Trace
+pub mod Typing
+pub mod Valid
+pub mod Same
+pub mod Laws

@@ -1,5 +1,0 @@
-use Rattle.gu_format.proofs.Modules.{module_again, module_read, module_within}
-use Rattle.gu_format.proofs.laws.decoding_reads_modules.Goals as goal
-
-pub returns : goal.returns
-returns c = record { again = module_again; taken = module_read; inside = module_within }
