@@ -14,3 +14,4 @@ pub mod Writing
 pub mod Shaped
 pub mod Narrow
 pub mod Shallow
+pub mod Alone

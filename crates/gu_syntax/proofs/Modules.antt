@@ -12,14 +12,14 @@ use Rattle.gu_syntax.specs.declared.module.Seg.{Seg}
 use Rattle.gu_syntax.specs.Parts.{Parts, Begins, SpellsU32, SpellsItems, SpellsVector, Both, Made, SpellsSome}
 use Rattle.gu_syntax.specs.Module.{header, Custom, SpellsSection, SpellsList, counted, SpellsSegs, SpellsBodies, SpellsCount, SpellsTables, SpellsFuncs, SpellsImports, SpellsSections, Spells}
 use Rattle.gu_syntax.specs.Types.{SpellsGroup, SpellsLimits}
-use Rattle.gu_syntax.specs.Expressions.{SpellsEntry}
+use Rattle.gu_syntax.specs.Expressions.{SpellsFunc}
 use Rattle.gu_syntax.specs.Sections.{SpellsImport, SpellsTypeIndex, SpellsTable, SpellsTag, SpellsGlobal, SpellsExport, SpellsElem, SpellsSeg}
-use Rattle.gu_syntax.specs.Reading.{HeaderByte, Number, SectionId, Fault, Read, got, stops, refused, ◌>>=◌, made_at, both_at, then_at, u32_at, none_at, fixed_at, items_at, vector_at, group_at, limits_at, import_at, table_at, tag_at, global_at, export_at, elem_at, seg_at, entry_at, entries_at, bodies_at, agrees, segs_at, customs_at, section_at, list_at, some, Late, late_at, Middle, middle_at, All, all_at, is_said, module_of, is_missing, is_due, end_at, sections_at, module_at}
+use Rattle.gu_syntax.specs.Reading.{HeaderByte, Number, SectionId, Fault, Read, got, stops, refused, ◌>>=◌, made_at, both_at, then_at, u32_at, none_at, fixed_at, items_at, vector_at, group_at, limits_at, import_at, table_at, tag_at, global_at, export_at, elem_at, seg_at, func_at, entries_at, bodies_at, agrees, segs_at, customs_at, section_at, list_at, some, Late, late_at, Middle, middle_at, All, all_at, is_said, module_of, is_missing, is_due, end_at, sections_at, module_at}
 use Rattle.gu_syntax.proofs.Takes.{Splits, is_eq, eq_is, not_below, below_not, shorter}
 use Rattle.gu_syntax.proofs.Decodes.{Decodes, Continues, decodes_as, decodes_chain, decodes_then, Nothing, none_decodes, made_decodes, u32_decodes, after_decodes, Items, items_decode, vector_decodes, value_is, refused-got, got-stops, left_is, bind_got, bind_stops}
 use Rattle.gu_syntax.proofs.Types.{group_decodes, limits_decodes}
 use Rattle.gu_syntax.proofs.SectionItems.{import_decodes, tag_decodes, global_decodes, export_decodes}
-use Rattle.gu_syntax.proofs.Segments.{table_decodes, elem_decodes, seg_decodes, EntryOf, entry_decodes}
+use Rattle.gu_syntax.proofs.Segments.{table_decodes, elem_decodes, seg_decodes, FuncOf, func_decodes}
 use Rattle.gu_syntax.proofs.Sections.{rank, Above, Stands, section_stands, DependsOn, then_stands, both_stands, customs_behind, customs_read, customs_stop}
 
 -- code entries
@@ -28,7 +28,7 @@ abbrev indices : List Func → List ℕ
 indices funcs = map (λ func. func.ty) funcs
 
 unfoldable Entries : List ℕ → List Func → List ℕ → Type 0
-Entries tys funcs text = (indices funcs ≡ tys) × SpellsItems SpellsEntry funcs text
+Entries tys funcs text = (indices funcs ≡ tys) × SpellsItems SpellsFunc funcs text
 
 same_head : (a b : ℕ) (xs ys : List ℕ) → a ∷ xs ≡ b ∷ ys → a ≡ b
 same_head a b xs ys h = cc
@@ -51,16 +51,16 @@ entries_none : (funcs : List Func) (text : List ℕ) → Nothing [] funcs text �
 unfolding Entries Nothing
 entries_none funcs text h = subst (λ (fs : List Func). Entries [] fs text) h.0 (refl, h.1)
 
-entries_open : (ty : ℕ) (tys : List ℕ) (funcs : List Func) (text : List ℕ) → Entries (ty ∷ tys) funcs text → (func : Func) × Parts (EntryOf ty func) (Made (Entries tys) (λ fs. func ∷ fs) funcs) text
-unfolding Entries EntryOf
+entries_open : (ty : ℕ) (tys : List ℕ) (funcs : List Func) (text : List ℕ) → Entries (ty ∷ tys) funcs text → (func : Func) × Parts (FuncOf ty func) (Made (Entries tys) (λ fs. func ∷ fs) funcs) text
+unfolding Entries FuncOf
 entries_open ty tys [] text h = absurd (no-cons ty tys h.0)
 entries_open ty tys (func ∷ funcs) text h =
     let first = same_head func.ty ty (map (λ f. f.ty) funcs) tys h.0 in
     let later = same_tail func.ty ty (map (λ f. f.ty) funcs) tys h.0 in
     (func, record { front = h.1.front; back = h.1.back; whole = h.1.whole; first = (first, h.1.first); second = record { value = funcs; makes = refl; spelled = (later, h.1.second) } })
 
-entries_close : (ty : ℕ) (tys : List ℕ) (func : Func) (funcs : List Func) (text : List ℕ) → Parts (EntryOf ty func) (Made (Entries tys) (λ fs. func ∷ fs) funcs) text → Entries (ty ∷ tys) funcs text
-unfolding Entries EntryOf
+entries_close : (ty : ℕ) (tys : List ℕ) (func : Func) (funcs : List Func) (text : List ℕ) → Parts (FuncOf ty func) (Made (Entries tys) (λ fs. func ∷ fs) funcs) text → Entries (ty ∷ tys) funcs text
+unfolding Entries FuncOf
 entries_close ty tys func funcs text p =
     let P : List Func → Type 0 = λ fs. Entries (ty ∷ tys) fs text in
     let heads : ℕ → List ℕ = λ n. n ∷ map (λ (f : Func). f.ty) p.second.value in
@@ -68,9 +68,9 @@ entries_close ty tys func funcs text p =
 
 entries_decode : (bound room : ℕ) → bound ≤ room → (tys : List ℕ) → Decodes bound (Entries tys) (entries_at room tys)
 entries_decode bound room fits [] = decodes_as bound (Nothing []) (Entries []) (none_at []) entries_none no_entries (none_decodes bound [])
-entries_decode bound room fits (ty ∷ tys) = decodes_then bound (Entries (ty ∷ tys)) (EntryOf ty) (λ func. Made (Entries tys) (λ fs. func ∷ fs)) (entry_at room ty) (λ func rest. entries_at room tys rest >>= λ funcs behind. got (func ∷ funcs) behind)
+entries_decode bound room fits (ty ∷ tys) = decodes_then bound (Entries (ty ∷ tys)) (FuncOf ty) (λ func. Made (Entries tys) (λ fs. func ∷ fs)) (func_at room ty) (λ func rest. entries_at room tys rest >>= λ funcs behind. got (func ∷ funcs) behind)
     (record { opens = entries_open ty tys; closes = entries_close ty tys })
-    (entry_decodes bound room ty fits)
+    (func_decodes bound room ty fits)
     (λ func. made_decodes bound (Entries tys) (entries_at room tys) (λ fs. func ∷ fs) (entries_decode bound room fits tys))
 
 -- what is read where a test holds
@@ -88,7 +88,7 @@ tested {X} bound test P at d = record {
 }
 
 unfoldable Bodies : List ℕ → List Func → List ℕ → Type 0
-Bodies tys funcs text = (indices funcs ≡ tys) × SpellsVector SpellsEntry funcs text
+Bodies tys funcs text = (indices funcs ≡ tys) × SpellsVector SpellsFunc funcs text
 
 as_many : (tys : List ℕ) (funcs : List Func) → indices funcs ≡ tys → length funcs ≡ length tys
 as_many tys funcs e = sym (length-map funcs (λ func. func.ty)) ∙ ap length e
@@ -288,8 +288,8 @@ said_counted true n = refl
 late_open : (m : Module) (text : List ℕ) → SpellsCount m text → LateOf (indices m.funcs) (late_of m) text
 unfolding LateOf DependsOn Bodies SegsOf late_of
 late_open m text h = behind (SpellsSection 12 None SpellsSome (counted m.has_count (length m.segs))) (SpellsBodies m) (Both (SpellsSection 10 [] (Bodies (indices m.funcs))) (SpellsSection 11 [] (SegsOf (counted m.has_count (length m.segs)))) (m.funcs, m.segs)) text (λ t.
-    parts_as (SpellsList 10 SpellsEntry m.funcs) (SpellsSegs m) (SpellsSection 10 [] (Bodies (indices m.funcs)) m.funcs) (SpellsSection 11 [] (SegsOf (counted m.has_count (length m.segs))) m.segs) t
-    (λ front. section_as 10 [] (SpellsVector SpellsEntry) (Bodies (indices m.funcs)) m.funcs front (λ content v. (refl, v)))
+    parts_as (SpellsList 10 SpellsFunc m.funcs) (SpellsSegs m) (SpellsSection 10 [] (Bodies (indices m.funcs)) m.funcs) (SpellsSection 11 [] (SegsOf (counted m.has_count (length m.segs))) m.segs) t
+    (λ front. section_as 10 [] (SpellsVector SpellsFunc) (Bodies (indices m.funcs)) m.funcs front (λ content v. (refl, v)))
     (λ back. section_as 11 [] (SpellsVector SpellsSeg) (SegsOf (counted m.has_count (length m.segs))) m.segs back (λ content v. (agrees_counted m.has_count (length m.segs), v)))) h
 
 all_open : (m : Module) (text : List ℕ) → SpellsSections m text → AllOf (all_of m) text
@@ -351,7 +351,7 @@ late_close tys x m text funcs segs has h p =
     let same : x.0 ≡ counted m.has_count (length m.segs) = said_is x.0 (length x.1.1) (missing_segs tys x h) ∙ ap (λ b. counted b (length x.1.1)) (sym has) ∙ ap (λ (s : List Seg). counted m.has_count (length s)) (sym segs) in
     let P : Option ℕ → Type 0 = λ o. SpellsSection 12 None SpellsSome o p.front in
     let q = p.second in
-    let F : List Func → Type 0 = λ fs. SpellsList 10 SpellsEntry fs q.front in
+    let F : List Func → Type 0 = λ fs. SpellsList 10 SpellsFunc fs q.front in
     let S : List Seg → Type 0 = λ ss. SpellsList 11 SpellsSeg ss q.back in
     record {
       front = p.front;
@@ -362,7 +362,7 @@ late_close tys x m text funcs segs has h p =
         front = q.front;
         back = q.back;
         whole = q.whole;
-        first = subst F (sym funcs) (section_as 10 [] (Bodies tys) (SpellsVector SpellsEntry) x.1.0 q.front (λ content v. v.1) q.first);
+        first = subst F (sym funcs) (section_as 10 [] (Bodies tys) (SpellsVector SpellsFunc) x.1.0 q.front (λ content v. v.1) q.first);
         second = subst S (sym segs) (section_as 11 [] (SegsOf x.0) (SpellsVector SpellsSeg) x.1.1 q.back (λ content v. v.1) q.second);
       };
     }

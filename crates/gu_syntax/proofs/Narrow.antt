@@ -5,7 +5,7 @@ use Rattle.gu_syntax.specs.declared.instr.BlockType.{BlockType}
 use Rattle.gu_syntax.specs.declared.module.Module.{Module}
 use Rattle.gu_syntax.specs.Module.{header, Custom, Spells}
 use Rattle.gu_syntax.specs.Due.{IsMalformed, IsOutside, outside}
-use Rattle.gu_syntax.specs.Reading.{Item, Fixed, Number, Size, TypeStart, Opcode, FlatOpcode, HeaderByte, Fault, Read, got, stops, refused, ◌>>=◌, made_at, both_at, then_at, u32_as, u32_at, headed_at, numbered_at, rows_at, none_at, after, fixed_at, items_at, vector_at, whole, content_at, sized_at, bytes_at, ref_head, ref_at, val_at, mutable_at, limits_at, block_type_at, catch_at, leaf_at, opened, Nested, block_at, second_at, if_at, try_at, ins_at, next_of, next_at, until_head, until_at, body_of, body_at, table_of, filled_of, table_head, table_at, tag_at, global_of, global_at, funcs_at, kind_funcs_at, exprs_at, elem_rows, elem_at, seg_rows, seg_at, locals_at, entry_of, entry_at, entries_at, bodies_at, agrees, segs_at, customs_at, section_at, list_at, some, import_at, group_at, export_at, late_at, middle_at, all_at, module_of, is_due, end_at, sections_at, module_at}
+use Rattle.gu_syntax.specs.Reading.{Item, Fixed, Number, Size, TypeStart, Opcode, FlatOpcode, HeaderByte, Fault, Read, got, stops, refused, ◌>>=◌, made_at, both_at, then_at, u32_as, u32_at, headed_at, numbered_at, rows_at, none_at, after, fixed_at, items_at, vector_at, whole, content_at, sized_at, bytes_at, ref_head, ref_at, val_at, mutable_at, limits_at, block_type_at, catch_at, leaf_at, opened, Nested, block_at, second_at, if_at, try_at, ins_at, next_of, next_at, until_head, until_at, body_of, body_at, table_of, filled_of, table_head, table_at, tag_at, global_of, global_at, funcs_at, kind_funcs_at, exprs_at, elem_rows, elem_at, seg_rows, seg_at, locals_at, entry_of, entry_at, func_at, entries_at, bodies_at, agrees, segs_at, customs_at, section_at, list_at, some, import_at, group_at, export_at, late_at, middle_at, all_at, module_of, is_due, end_at, sections_at, module_at}
 use Rattle.gu_syntax.proofs.Decodes.{stops-got, fault_is}
 use Rattle.gu_syntax.proofs.Modules.{module_again}
 
@@ -252,13 +252,16 @@ segs room more fits = numbered Fixed (rows_at Fixed (seg_rows room)) (rows_at Fi
       ),
     )))
 
-entry : (room more ty : ℕ) → room ≤ more → Narrows (entry_at room ty) (entry_at more ty)
-entry room more ty fits = sized (made_at (entry_of ty) (both_at locals_at (body_at room))) (made_at (entry_of ty) (both_at locals_at (body_at more))) (made (entry_of ty) (both_at locals_at (body_at room)) (both_at locals_at (body_at more)) (both locals_at locals_at (body_at room) (body_at more) (equal locals_at) (body room more fits)))
+pub entry : (room more : ℕ) → room ≤ more → Narrows (entry_at room) (entry_at more)
+entry room more fits = sized (both_at locals_at (body_at room)) (both_at locals_at (body_at more)) (both locals_at locals_at (body_at room) (body_at more) (equal locals_at) (body room more fits))
+
+func : (room more ty : ℕ) → room ≤ more → Narrows (func_at room ty) (func_at more ty)
+func room more ty fits = made (entry_of ty) (entry_at room) (entry_at more) (entry room more fits)
 
 entries : (room more : ℕ) → room ≤ more → (tys : List ℕ) → Narrows (entries_at room tys) (entries_at more tys)
 unfolding Narrows
 entries room more fits [] text = same (got [] text)
-entries room more fits (ty ∷ tys) text = bind (entry_at room ty text) (entry_at more ty text) (λ func rest. entries_at room tys rest >>= λ funcs behind. got (func ∷ funcs) behind) (λ func rest. entries_at more tys rest >>= λ funcs behind. got (func ∷ funcs) behind) (entry room more ty fits text) (λ func rest. bind (entries_at room tys rest) (entries_at more tys rest) (λ funcs behind. got (func ∷ funcs) behind) (λ funcs behind. got (func ∷ funcs) behind) (entries room more fits tys rest) (λ funcs behind. same (got (func ∷ funcs) behind)))
+entries room more fits (ty ∷ tys) text = bind (func_at room ty text) (func_at more ty text) (λ func rest. entries_at room tys rest >>= λ funcs behind. got (func ∷ funcs) behind) (λ func rest. entries_at more tys rest >>= λ funcs behind. got (func ∷ funcs) behind) (func room more ty fits text) (λ func rest. bind (entries_at room tys rest) (entries_at more tys rest) (λ funcs behind. got (func ∷ funcs) behind) (λ funcs behind. got (func ∷ funcs) behind) (entries room more fits tys rest) (λ funcs behind. same (got (func ∷ funcs) behind)))
 
 bodies : (room more : ℕ) → room ≤ more → (tys : List ℕ) → Narrows (bodies_at room tys) (bodies_at more tys)
 unfolding Narrows
@@ -328,15 +331,15 @@ module_narrow room more fits text =
     bind_same (customs_at rest) (λ customs behind. sections_at room behind) (λ customs behind. sections_at more behind) (λ customs behind.
     bind (all_at room behind) (all_at more behind) (λ all end. end_at (is_due all) (module_of all) end) (λ all end. end_at (is_due all) (module_of all) end) (alls room more fits behind) (λ all end. same (end_at (is_due all) (module_of all) end))))
 
-wide_of : (r s : Read Module) (m : Module) (rest : List ℕ) → Narrow r s → r ≡ got m rest → s ≡ got m rest
+pub wide_of : {X : Type 0} (r s : Read X) (m : X) (rest : List ℕ) → Narrow r s → r ≡ got m rest → s ≡ got m rest
 unfolding Narrow Flat
 wide_of r s m rest (inl e) h = sym e ∙ h
 wide_of r s m rest (inr e) h = absurd (stops-got m rest (record { item = FlatOpcode; left = e.0 }) (sym e.1 ∙ h))
 
-flat_of : (r s : Read Module) (m : Module) (rest : List ℕ) (fault : Fault) → Narrow r s → r ≡ stops fault → s ≡ got m rest → fault.item ≡ FlatOpcode
+pub flat_of : {X : Type 0} (r s : Read X) (m : X) (rest : List ℕ) (fault : Fault) → Narrow r s → r ≡ stops fault → s ≡ got m rest → fault.item ≡ FlatOpcode
 unfolding Narrow Flat
-flat_of r s m rest fault (inl e) h read = absurd (stops-got m rest fault (sym h ∙ e ∙ read))
-flat_of r s m rest fault (inr e) h read = ap (λ (f : Fault). f.item) (fault_is {A = Module} fault (record { item = FlatOpcode; left = e.0 }) (sym h ∙ e.1))
+flat_of {X} r s m rest fault (inl e) h read = absurd (stops-got m rest fault (sym h ∙ e ∙ read))
+flat_of {X} r s m rest fault (inr e) h read = ap (λ (f : Fault). f.item) (fault_is {A = X} fault (record { item = FlatOpcode; left = e.0 }) (sym h ∙ e.1))
 
 none_there : (code : ℕ) (text : List ℕ) → outside FlatOpcode text ≡ Some code → ⊥
 none_there code [] h = let f : ⊥ = cc in f

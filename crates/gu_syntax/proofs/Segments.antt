@@ -1,7 +1,6 @@
 -- Tables, segments and code entries: what is spelled is read, and what is read is spelled.
 use Rattle.std.proofs.Common.{ℕ, ◌≤◌, List, [], ◌∷◌, ◌++◌, ◌≡◌, refl, ap, ◌∙◌, sym, subst, nat_eq, cond, inl, inr, Option, Some, None}
 use Rattle.gu_types.specs.declared.types.RefType.{RefType}
-use Rattle.gu_types.specs.declared.types.ValType.{ValType}
 use Rattle.gu_syntax.specs.declared.instr.Body.{Body}
 use Rattle.gu_syntax.specs.declared.module.Elem.{Elem}
 use Rattle.gu_syntax.specs.declared.module.ElemMode.{ElemMode}
@@ -14,11 +13,11 @@ use Rattle.gu_syntax.specs.declared.module.Seg.{Seg}
 use Rattle.gu_syntax.specs.declared.module.SegMode.{SegMode}
 use Rattle.gu_syntax.specs.declared.module.SegMode.TheVariants as G
 use Rattle.gu_syntax.specs.declared.module.Table.{Table}
-use Rattle.gu_syntax.specs.Parts.{Parts, Begins, Sized, SpellsU32, SpellsItems, SpellsVector, Both, Made, Numbered}
+use Rattle.gu_syntax.specs.Parts.{Parts, Begins, SpellsU32, SpellsItems, SpellsVector, Both, Made, Numbered}
 use Rattle.gu_syntax.specs.Types.{SpellsRef, SpellsVal, SpellsLimits}
-use Rattle.gu_syntax.specs.Expressions.{SpellsBody, SpellsRun, merged, SpellsLocals, SpellsEntry}
+use Rattle.gu_syntax.specs.Expressions.{SpellsBody, SpellsRun, merged, SpellsLocals, SpellsEntry, SpellsFunc}
 use Rattle.gu_syntax.specs.Sections.{SpellsTableAs, SpellsTable, funcref, SpellsElemAs, SpellsElem, SpellsByte, SpellsSegAs, SpellsSeg}
-use Rattle.gu_syntax.specs.Reading.{Fixed, Number, TypeStart, Read, got, refused, ◌>>=◌, made_at, both_at, u32_at, rows_at, after, vector_at, bytes_at, ref_head, ref_at, val_at, limits_at, body_at, table_of, filled_of, table_head, table_at, funcs_at, kind_funcs_at, exprs_at, elem_rows, elem_at, seg_rows, seg_at, run_at, locals_at, entry_of, entry_at}
+use Rattle.gu_syntax.specs.Reading.{Fixed, Number, TypeStart, Read, got, refused, ◌>>=◌, made_at, both_at, u32_at, rows_at, after, vector_at, bytes_at, ref_head, ref_at, val_at, limits_at, body_at, table_of, filled_of, table_head, table_at, funcs_at, kind_funcs_at, exprs_at, elem_rows, elem_at, seg_rows, seg_at, run_at, locals_at, entry_of, entry_at, func_at}
 use Rattle.gu_syntax.proofs.Decodes.{Decodes, continues_of, continues_chain, Heads, Headed, NumberedBy, numbered_decodes, Row, NoRow, MadeBy, made_heads, avoids, decodes_as, made_decodes, both_decodes, u32_decodes, after_decodes, headed_decodes, no_row_heads, row_heads, vector_decodes, sized_decodes}
 use Rattle.gu_syntax.proofs.Types.{RefBy, ref_heads, spells_ref, ref_back, ref_void, ref_decodes, val_decodes, limits_decodes}
 use Rattle.gu_syntax.proofs.Expressions.{body_decodes}
@@ -353,25 +352,26 @@ run_decodes bound = both_decodes bound SpellsU32 SpellsVal u32_at val_at (u32_de
 locals_decode : (bound : ℕ) → Decodes bound SpellsLocals locals_at
 locals_decode bound = made_decodes bound (SpellsVector SpellsRun) (vector_at run_at) merged (vector_decodes bound SpellsRun run_at (run_decodes bound))
 
-abbrev EntryParts : List (ℕ × ValType) × Body → List ℕ → Type 0
-EntryParts = Both SpellsLocals SpellsBody
+pub entry_decodes : (bound room : ℕ) → bound ≤ room → Decodes bound SpellsEntry (entry_at room)
+entry_decodes bound room fits = sized_decodes bound (Both SpellsLocals SpellsBody) (both_at locals_at (body_at room)) (both_decodes bound SpellsLocals SpellsBody locals_at (body_at room) (locals_decode bound) (body_decodes bound room fits))
 
-unfoldable pub EntryOf : ℕ → Func → List ℕ → Type 0
-EntryOf ty func text = (func.ty ≡ ty) × SpellsEntry func text
+-- functions of one type
 
-entry_to : (ty : ℕ) (func : Func) (text : List ℕ) → Sized (Made EntryParts (entry_of ty) func) text → EntryOf ty func text
-unfolding EntryOf
-entry_to ty func text h =
-    let P : Func → Type 0 = λ f. (f.ty ≡ ty) × SpellsEntry f text in
-    subst P h.inside.makes (refl, record { size = h.size; content = h.content; whole = h.whole; counts = h.counts; inside = h.inside.spelled })
+unfoldable pub FuncOf : ℕ → Func → List ℕ → Type 0
+FuncOf ty func text = (func.ty ≡ ty) × SpellsFunc func text
 
-entry_is : (ty : ℕ) (func : Func) → func.ty ≡ ty → entry_of ty (func.locals, func.body) ≡ func
-entry_is ty func e = let at : ℕ → Func = λ n. record { ty = n; locals = func.locals; body = func.body } in ap at (sym e)
+func_to : (ty : ℕ) (func : Func) (text : List ℕ) → Made SpellsEntry (entry_of ty) func text → FuncOf ty func text
+unfolding FuncOf
+func_to ty func text h =
+    let P : Func → Type 0 = λ f. (f.ty ≡ ty) × SpellsFunc f text in
+    subst P h.makes (refl, h.spelled)
 
-entry_back : (ty : ℕ) (func : Func) (text : List ℕ) → EntryOf ty func text → Sized (Made EntryParts (entry_of ty) func) text
-unfolding EntryOf
-entry_back ty func text h = record { size = h.1.size; content = h.1.content; whole = h.1.whole; counts = h.1.counts; inside = record { value = (func.locals, func.body); makes = entry_is ty func h.0; spelled = h.1.inside } }
+func_is : (ty : ℕ) (func : Func) → func.ty ≡ ty → entry_of ty (func.locals, func.body) ≡ func
+func_is ty func e = let at : ℕ → Func = λ n. record { ty = n; locals = func.locals; body = func.body } in ap at (sym e)
 
-pub entry_decodes : (bound room ty : ℕ) → bound ≤ room → Decodes bound (EntryOf ty) (entry_at room ty)
-entry_decodes bound room ty fits = decodes_as bound (λ func. Sized (Made EntryParts (entry_of ty) func)) (EntryOf ty) (entry_at room ty) (entry_to ty) (entry_back ty)
-    (sized_decodes bound (Made EntryParts (entry_of ty)) (made_at (entry_of ty) (both_at locals_at (body_at room))) (made_decodes bound EntryParts (both_at locals_at (body_at room)) (entry_of ty) (both_decodes bound SpellsLocals SpellsBody locals_at (body_at room) (locals_decode bound) (body_decodes bound room fits))))
+func_back : (ty : ℕ) (func : Func) (text : List ℕ) → FuncOf ty func text → Made SpellsEntry (entry_of ty) func text
+unfolding FuncOf
+func_back ty func text h = record { value = (func.locals, func.body); makes = func_is ty func h.0; spelled = h.1 }
+
+pub func_decodes : (bound room ty : ℕ) → bound ≤ room → Decodes bound (FuncOf ty) (func_at room ty)
+func_decodes bound room ty fits = decodes_as bound (Made SpellsEntry (entry_of ty)) (FuncOf ty) (func_at room ty) (func_to ty) (func_back ty) (made_decodes bound SpellsEntry (entry_at room) (entry_of ty) (entry_decodes bound room fits))

@@ -9,7 +9,7 @@ use Rattle.gu_syntax.specs.declared.instr.Catch.{Catch}
 use Rattle.gu_syntax.specs.declared.module.Module.{Module}
 use Rattle.gu_syntax.specs.Module.{Spells, header, Custom}
 use Rattle.gu_syntax.specs.Nesting.{NestsWithin, NestsIns, NestsBody, NestsElem, NestsSeg, NestsTable, NestsGlobal, NestsFunc, IsShallow}
-use Rattle.gu_syntax.specs.Reading.{Item, Opcode, FlatOpcode, Read, got, refused, ◌>>=◌, made_at, both_at, headed_at, none_at, vector_at, block_type_at, catch_at, leaf_at, opened, Nested, block_at, second_at, if_at, try_at, ins_at, next_of, next_at, until_head, until_at, body_of, body_at, Fixed, Number, Size, TypeStart, HeaderByte, then_at, u32_as, u32_at, numbered_at, rows_at, after, fixed_at, items_at, whole, content_at, sized_at, bytes_at, ref_head, ref_at, val_at, mutable_at, limits_at, table_of, filled_of, table_head, table_at, tag_at, global_of, global_at, funcs_at, kind_funcs_at, exprs_at, elem_rows, elem_at, seg_rows, seg_at, locals_at, entry_of, entry_at, entries_at, bodies_at, agrees, segs_at, customs_at, section_at, list_at, some, import_at, group_at, export_at, Late, late_at, Middle, middle_at, All, all_at, module_of, is_due, end_at, sections_at, module_at}
+use Rattle.gu_syntax.specs.Reading.{Item, Opcode, FlatOpcode, Read, got, refused, ◌>>=◌, made_at, both_at, headed_at, none_at, vector_at, block_type_at, catch_at, leaf_at, opened, Nested, block_at, second_at, if_at, try_at, ins_at, next_of, next_at, until_head, until_at, body_of, body_at, Fixed, Number, Size, TypeStart, HeaderByte, then_at, u32_as, u32_at, numbered_at, rows_at, after, fixed_at, items_at, whole, content_at, sized_at, bytes_at, ref_head, ref_at, val_at, mutable_at, limits_at, table_of, filled_of, table_head, table_at, tag_at, global_of, global_at, funcs_at, kind_funcs_at, exprs_at, elem_rows, elem_at, seg_rows, seg_at, locals_at, entry_of, entry_at, func_at, entries_at, bodies_at, agrees, segs_at, customs_at, section_at, list_at, some, import_at, group_at, export_at, Late, late_at, Middle, middle_at, All, all_at, module_of, is_due, end_at, sections_at, module_at}
 use Rattle.gu_syntax.specs.declared.module.Elem.{Elem}
 use Rattle.gu_syntax.specs.declared.module.Export.{Export}
 use Rattle.gu_syntax.specs.declared.module.Func.{Func}
@@ -353,16 +353,19 @@ keep_segs room more fits =
       ),
     )))
 
-keep_entry : (room more ty : ℕ) → room ≤ more → Keeps (NestsFunc room) (entry_at room ty) (entry_at more ty)
-keep_entry room more ty fits = keep_sized (NestsFunc room) (made_at (entry_of ty) (both_at locals_at (body_at room))) (made_at (entry_of ty) (both_at locals_at (body_at more))) (keep_made (NestsFunc room) (λ x. Any x.0 × NestsBody room x.1) (entry_of ty) (both_at locals_at (body_at room)) (both_at locals_at (body_at more)) (λ x d. (tt, d)) (keep_both Any (NestsBody room) locals_at locals_at (body_at room) (body_at more) (keep_any locals_at) (keep_body room more fits)))
+pub keep_entry : (room more : ℕ) → room ≤ more → Keeps (λ x. Any x.0 × NestsBody room x.1) (entry_at room) (entry_at more)
+keep_entry room more fits = keep_sized (λ x. Any x.0 × NestsBody room x.1) (both_at locals_at (body_at room)) (both_at locals_at (body_at more)) (keep_both Any (NestsBody room) locals_at locals_at (body_at room) (body_at more) (keep_any locals_at) (keep_body room more fits))
+
+keep_func : (room more ty : ℕ) → room ≤ more → Keeps (NestsFunc room) (func_at room ty) (func_at more ty)
+keep_func room more ty fits = keep_made (NestsFunc room) (λ x. Any x.0 × NestsBody room x.1) (entry_of ty) (entry_at room) (entry_at more) (λ x d. (tt, d)) (keep_entry room more fits)
 
 keep_entries : (room more : ℕ) → room ≤ more → (tys : List ℕ) → Keeps (AllByRecursion (NestsFunc room)) (entries_at room tys) (entries_at more tys)
 unfolding Keeps
 keep_entries room more fits [] text rest xs g d = g
-keep_entries room more fits (ty ∷ tys) text rest xs g d = keep_bind (entry_at room ty text) (entry_at more ty text) (λ func mid. entries_at room tys mid >>= λ funcs behind. got (func ∷ funcs) behind) (λ func mid. entries_at more tys mid >>= λ funcs behind. got (func ∷ funcs) behind) xs rest g (λ func mid s e.
+keep_entries room more fits (ty ∷ tys) text rest xs g d = keep_bind (func_at room ty text) (func_at more ty text) (λ func mid. entries_at room tys mid >>= λ funcs behind. got (func ∷ funcs) behind) (λ func mid. entries_at more tys mid >>= λ funcs behind. got (func ∷ funcs) behind) xs rest g (λ func mid s e.
     let b = bind_got (entries_at more tys mid) (λ funcs behind. got (func ∷ funcs) behind) xs rest e in
     let a : AllByRecursion (NestsFunc room) (func ∷ b.0) = subst (AllByRecursion (NestsFunc room)) (sym (value_is (func ∷ b.0) xs b.1 rest b.3)) d in
-    (keep_entry room more ty fits text mid func s a.0, ap (λ (t : Read (List Func)). t >>= λ funcs behind. got (func ∷ funcs) behind) (keep_entries room more fits tys mid b.1 b.0 b.2 a.1) ∙ b.3))
+    (keep_func room more ty fits text mid func s a.0, ap (λ (t : Read (List Func)). t >>= λ funcs behind. got (func ∷ funcs) behind) (keep_entries room more fits tys mid b.1 b.0 b.2 a.1) ∙ b.3))
 
 -- what is read where a test holds
 keep_tested : {X : Type 0} (D : X → Type 0) (test : Bool) (p q : List ℕ → Read X) (left : ℕ) → Keeps D p q → Keeps D (λ t. cond test (p t) (refused Number left)) (λ t. cond test (q t) (refused Number left))

@@ -26,7 +26,7 @@ use Rattle.gu_syntax.specs.declared.module.Module.{Module}
 use Rattle.gu_syntax.specs.declared.module.SegMode.{SegMode}
 use Rattle.gu_syntax.specs.declared.module.SegMode.TheVariants as G
 use Rattle.gu_syntax.specs.Types.{abs_byte, SpellsRef, SpellsVal, SpellsGroup, SpellsLimits, null_byte, SpellsHeap, SpellsShort, SpellsStorage, SpellsField, SpellsComp, SpellsSub, SpellsOne, SpellsRange}
-use Rattle.gu_syntax.specs.Expressions.{same_heap, SpellsBody, SpellsRun, merged, SpellsEntry, same_val, joined, SpellsUntil, SpellsIns}
+use Rattle.gu_syntax.specs.Expressions.{same_heap, SpellsBody, SpellsRun, merged, SpellsFunc, same_val, joined, SpellsUntil, SpellsIns}
 use Rattle.gu_syntax.specs.Sections.{SpellsDesc, SpellsImport, SpellsTypeIndex, SpellsTableAs, SpellsTable, SpellsTag, SpellsGlobal, SpellsExport, SpellsElemAs, SpellsElem, SpellsSegAs, SpellsSeg}
 use Rattle.gu_syntax.specs.Module.{SpellsSection, SpellsList, Spells}
 use Rattle.gu_syntax.proofs.Takes.{is_eq}
@@ -326,7 +326,7 @@ record EntryShaped (func : Func) : Type 0 where
   types : AllShaped func.locals
   body : IsShapedBody func.body
 
-entry_shaped : (func : Func) (text : List ℕ) → SpellsEntry func text → EntryShaped func
+entry_shaped : (func : Func) (text : List ℕ) → SpellsFunc func text → EntryShaped func
 entry_shaped func text h =
     let l = h.inside.first in
     let P : List Run → Type 0 = λ runs. merged runs ≡ runs in
@@ -410,7 +410,7 @@ spelled_shaped text m h fits =
     record {
       types = list_all 1 SpellsGroup IsShapedGroup m.types.groups s1.front group_shaped s1.first;
       imports = list_all 2 SpellsImport IsShapedImport m.imports s2.front import_shaped s2.first;
-      funcs = funcs_shaped m.funcs (list_all 3 SpellsTypeIndex (λ func. FitsU32 func.ty) m.funcs s3.front (λ func front s. u32_fits func.ty front s) s3.first) (list_all 10 SpellsEntry EntryShaped m.funcs s10.front entry_shaped s10.first) fits;
+      funcs = funcs_shaped m.funcs (list_all 3 SpellsTypeIndex (λ func. FitsU32 func.ty) m.funcs s3.front (λ func front s. u32_fits func.ty front s) s3.first) (list_all 10 SpellsFunc EntryShaped m.funcs s10.front entry_shaped s10.first) fits;
       tables = list_all 4 SpellsTable IsShapedTable m.tables s4.front (λ x front s. table_shaped_as x.elem x.limits x.init front s) s4.first;
       memories = list_all 5 SpellsLimits IsShapedLimits m.memories s5.front limits_shaped s5.first;
       tags = list_all 13 SpellsTag FitsU32 m.tags s13.front (λ ty front s. u32_fits ty s.back s.rest) s13.first;

@@ -34,7 +34,7 @@ use Rattle.gu_syntax.specs.declared.module.SegMode.{SegMode}
 use Rattle.gu_syntax.specs.declared.module.SegMode.TheVariants as G
 use Rattle.gu_syntax.specs.declared.module.Table.{Table}
 use Rattle.gu_syntax.specs.Types.{abs_byte, SpellsRef, SpellsVal, SpellsMutable, SpellsGroup, SpellsLimits}
-use Rattle.gu_syntax.specs.Expressions.{same_heap, SpellsBody, SpellsRun, SpellsLocals, SpellsEntry}
+use Rattle.gu_syntax.specs.Expressions.{same_heap, SpellsBody, SpellsRun, SpellsLocals, SpellsFunc}
 use Rattle.gu_syntax.specs.Sections.{SpellsDesc, SpellsImport, SpellsTypeIndex, SpellsTableAs, SpellsTable, SpellsTag, SpellsGlobal, kind_byte, SpellsExport, funcref, SpellsElemAs, SpellsElem, SpellsByte, SpellsSegAs, SpellsSeg}
 use Rattle.gu_syntax.proofs.Takes.{is_eq}
 use Rattle.gu_syntax.proofs.Least.{most, Fine, fine_as, fine_parts, fine_begins, fine_u32, fine_numbered, fine_vector, fine_sized, fine_indices, ref_fine, val_fine, mutable_fine, group_fine, limits_fine, body_fine, count_long, items_many}
@@ -204,7 +204,7 @@ seg_fine x h = seg_fine_as x.mode x.bytes h
 run_fine : (run : ℕ × ValType) → IsShapedRun run → Fine (SpellsRun run) (encode_run run)
 run_fine run h = fine_parts (SpellsU32 run.0) (SpellsVal run.1) (least_unsigned run.0) (encode_val run.1) (fine_u32 run.0 h.0) (val_fine run.1 h.1)
 
-func_fine : (func : Func) → IsShapedFunc func → Fine (SpellsEntry func) (encode_func func)
+func_fine : (func : Func) → IsShapedFunc func → Fine (SpellsFunc func) (encode_func func)
 func_fine func h =
     let locals = encode_vector encode_run func.locals in
     let inside = fine_parts (SpellsLocals func.locals) (SpellsBody func.body) locals (encode_body func.body)
@@ -278,7 +278,7 @@ encoding_spells m plain =
     let all : length r1 ≤ most = omega (arith, short, length-append header r1) in
     let many = section_many 11 SpellsSeg encode_seg IsShapedSeg seg_fine m.segs h.segs in
     let few : FitsU32 (length m.segs) = omega (arith, many, all, length-append t1 r2, length-append t2 r3, length-append t3 r4, length-append t4 r5, length-append t5 r13, length-append t13 r6, length-append t6 r7, length-append t7 r8, length-append t8 r9, length-append t9 r12, length-append t12 r10, length-append t10 t11) in
-    let s10 = parts_spelled (SpellsList 10 SpellsEntry m.funcs) (SpellsSegs m) t10 t11 (list_spelled 10 SpellsEntry encode_func IsShapedFunc func_fine m.funcs h.funcs) (list_spelled 11 SpellsSeg encode_seg IsShapedSeg seg_fine m.segs h.segs) in
+    let s10 = parts_spelled (SpellsList 10 SpellsFunc m.funcs) (SpellsSegs m) t10 t11 (list_spelled 10 SpellsFunc encode_func IsShapedFunc func_fine m.funcs h.funcs) (list_spelled 11 SpellsSeg encode_seg IsShapedSeg seg_fine m.segs h.segs) in
     let s12 = parts_spelled (SpellsSection 12 None SpellsSome (counted m.has_count (length m.segs))) (SpellsBodies m) t12 r10 (count_spelled m.has_count (length m.segs) few) s10 in
     let s9 = parts_spelled (SpellsList 9 SpellsElem m.elems) (SpellsCount m) t9 r12 (list_spelled 9 SpellsElem encode_elem IsShapedElem elem_fine m.elems h.elems) s12 in
     let s8 = parts_spelled (SpellsSection 8 None SpellsSome m.start) (SpellsElems m) t8 r9 (start_spelled m.start h.start) s9 in

@@ -293,8 +293,12 @@ encode_body body = encode_until 0x0B (code_of body.code)
 abbrev pub encode_run : ℕ × ValType → List ℕ
 encode_run run = least_unsigned run.0 ++ encode_val run.1
 
+-- a code entry of these locals and this body
+abbrev pub encode_entry : List (ℕ × ValType) → Body → List ℕ
+encode_entry locals body = sized (encode_vector encode_run locals ++ encode_body body)
+
 abbrev pub encode_func : Func → List ℕ
-encode_func func = sized (encode_vector encode_run func.locals ++ encode_body func.body)
+encode_func func = encode_entry func.locals func.body
 
 abbrev pub encode_desc : Desc → List ℕ
 encode_desc (D.Func ty) = 0x00 ∷ least_unsigned ty

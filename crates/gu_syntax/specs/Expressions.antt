@@ -60,6 +60,14 @@ merged (run ∷ runs) = if nat_eq run.0 0 then merged runs else joined run (merg
 abbrev pub SpellsLocals : List (ℕ × ValType) → List ℕ → Type 0
 SpellsLocals locals text = Made (SpellsVector SpellsRun) merged locals text
 
--- a code entry: its size, the locals and the body of a function (5.5.13 Code Section)
-abbrev pub SpellsEntry : Func → List ℕ → Type 0
-SpellsEntry func text = Sized (Parts (SpellsLocals func.locals) (SpellsBody func.body)) text
+-- what a code entry says of a function: its locals and its body
+abbrev pub Entry : Type 0
+Entry = List (ℕ × ValType) × Body
+
+-- a code entry: its size, the locals and the body (5.5.13 Code Section)
+abbrev pub SpellsEntry : Entry → List ℕ → Type 0
+SpellsEntry entry text = Sized (Parts (SpellsLocals entry.0) (SpellsBody entry.1)) text
+
+-- the code entry of a function, whose type stands in another section
+abbrev pub SpellsFunc : Func → List ℕ → Type 0
+SpellsFunc func text = SpellsEntry (func.locals, func.body) text

@@ -1,12 +1,16 @@
 -- What holds of every text and every module of the whole format.
-use Rattle.std.specs.Prelude.{ℕ, suc, ◌≤◌, ◌≡◌, List, [], length}
+use Rattle.std.specs.Prelude.{ℕ, suc, ◌≤◌, ◌<◌, ◌≡◌, List, [], ◌++◌, length}
 use Rattle.std.specs.List.{AllByRecursion}
 use Rattle.gu_syntax.specs.Shape.{FitsU32, IsShaped, IsPlain}
+use Rattle.gu_syntax.specs.Parts.{Parts, SpellsVector}
+use Rattle.gu_syntax.specs.Types.{SpellsGroup}
+use Rattle.gu_syntax.specs.Expressions.{Entry, SpellsEntry}
 use Rattle.gu_syntax.specs.Module.{Spells}
 use Rattle.gu_syntax.specs.Encoding.{encoding}
-use Rattle.gu_syntax.specs.Reading.{Fault, FlatOpcode, module_at, got, stops}
+use Rattle.gu_syntax.specs.Reading.{Fault, FlatOpcode, vector_at, group_at, entry_at, module_at, got, stops}
 use Rattle.gu_syntax.specs.Due.{IsMalformed, IsOutside, NestsTooDeep}
-use Rattle.gu_syntax.specs.Nesting.{IsShallow}
+use Rattle.gu_syntax.specs.Nesting.{NestsBody, IsShallow}
+use Rattle.gu_types.specs.declared.types.RecGroup.{RecGroup}
 use Rattle.gu_syntax.specs.declared.module.Func.{Func}
 use Rattle.gu_syntax.specs.declared.module.Module.{Module}
 
@@ -56,3 +60,43 @@ ShallowIsRead = (room : ℕ) (text : List ℕ) (m : Module) → Spells text m �
 -- where a block is opened too deep the text spells no module that nests at most 1,000 deep
 abbrev pub DeepIsUnspelled : Type 0
 DeepIsUnspelled = (text : List ℕ) (place : ℕ) (m : Module) → NestsTooDeep text place → Spells text m → IsShallow 1000 m → ⊥
+
+-- parts that are read by themselves: the content of a type section, and a code entry
+
+-- the text begins with what P takes, and the rest stands behind that
+abbrev pub BeginsWith : (P : List ℕ → Type 0) → (text rest : List ℕ) → Type 0
+BeginsWith P text rest = Parts P (λ back. back ≡ rest) text
+
+-- the groups that are spelled are read, whatever follows them
+abbrev pub GroupsAgain : Type 0
+GroupsAgain = (groups : List RecGroup) (front rest : List ℕ) → SpellsVector SpellsGroup groups front → vector_at group_at (front ++ rest) ≡ got groups rest
+
+-- the groups that are read are spelled by the bytes that reading passes
+abbrev pub GroupsTaken : Type 0
+GroupsTaken = (text rest : List ℕ) (groups : List RecGroup) → vector_at group_at text ≡ got groups rest → BeginsWith (SpellsVector SpellsGroup groups) text rest
+
+-- where reading stops, the text begins with no groups, and the place lies in the text
+abbrev pub GroupsRefused : Type 0
+GroupsRefused = (text rest : List ℕ) (groups : List RecGroup) (fault : Fault) → vector_at group_at text ≡ stops fault → BeginsWith (SpellsVector SpellsGroup groups) text rest → ⊥
+
+abbrev pub GroupsStopInside : Type 0
+GroupsStopInside = (text : List ℕ) (fault : Fault) → vector_at group_at text ≡ stops fault → fault.left ≤ length text
+
+-- the entry that is spelled is read, whatever follows it, where as many blocks may be open as there are bytes
+abbrev pub EntryAgain : Type 0
+EntryAgain = (room : ℕ) (entry : Entry) (front rest : List ℕ) → SpellsEntry entry front → length (front ++ rest) < room → entry_at room (front ++ rest) ≡ got entry rest
+
+-- or where as many may be open as its body needs
+abbrev pub ShallowEntryAgain : Type 0
+ShallowEntryAgain = (room : ℕ) (entry : Entry) (front rest : List ℕ) → SpellsEntry entry front → NestsBody room entry.1 → entry_at room (front ++ rest) ≡ got entry rest
+
+-- the entry that is read is spelled by the bytes that reading passes
+abbrev pub EntryTaken : Type 0
+EntryTaken = (room : ℕ) (text rest : List ℕ) (entry : Entry) → entry_at room text ≡ got entry rest → BeginsWith (SpellsEntry entry) text rest
+
+-- where reading stops, the text begins with no entry, but one that opens a block too deep
+abbrev pub EntryRefused : Type 0
+EntryRefused = (room : ℕ) (text rest : List ℕ) (entry : Entry) (fault : Fault) → entry_at room text ≡ stops fault → BeginsWith (SpellsEntry entry) text rest → (fault.item ≡ FlatOpcode) × (NestsBody room entry.1 → ⊥)
+
+abbrev pub EntryStopsInside : Type 0
+EntryStopsInside = (room : ℕ) (text : List ℕ) (fault : Fault) → entry_at room text ≡ stops fault → fault.left ≤ length text

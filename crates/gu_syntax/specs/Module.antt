@@ -4,7 +4,7 @@ use Rattle.std.specs.Prelude.{ℕ, ◌≡◌, ◌⊎◌, List, [], ◌∷◌, Bo
 use Rattle.gu_syntax.specs.declared.module.Module.{Module}
 use Rattle.gu_syntax.specs.Parts.{Parts, Begins, Sized, SpellsItems, SpellsVector, SpellsName, SpellsSome}
 use Rattle.gu_syntax.specs.Types.{SpellsGroup, SpellsLimits}
-use Rattle.gu_syntax.specs.Expressions.{SpellsEntry}
+use Rattle.gu_syntax.specs.Expressions.{SpellsFunc}
 use Rattle.gu_syntax.specs.Sections.{SpellsImport, SpellsTypeIndex, SpellsTable, SpellsTag, SpellsGlobal, SpellsExport, SpellsElem, SpellsSeg}
 
 -- a custom section, which says nothing of the module: a name, and bytes (5.5.3 Custom Section)
@@ -38,7 +38,7 @@ abbrev pub SpellsSegs : Module → List ℕ → Type 0
 SpellsSegs m text = SpellsList 11 SpellsSeg m.segs text
 
 abbrev pub SpellsBodies : Module → List ℕ → Type 0
-SpellsBodies m text = Parts (SpellsList 10 SpellsEntry m.funcs) (SpellsSegs m) text
+SpellsBodies m text = Parts (SpellsList 10 SpellsFunc m.funcs) (SpellsSegs m) text
 
 abbrev pub SpellsCount : Module → List ℕ → Type 0
 SpellsCount m text = Parts (SpellsSection 12 None SpellsSome (counted m.has_count (length m.segs))) (SpellsBodies m) text

@@ -43,7 +43,7 @@ use Rattle.gu_syntax.specs.declared.module.Seg.{Seg}
 use Rattle.gu_syntax.specs.declared.module.SegMode.TheVariants as G
 use Rattle.gu_syntax.specs.declared.module.Table.{Table}
 use Rattle.gu_syntax.specs.Instructions.{CastArg, Form, Alone, Index, Pair, Labels, Const32, Const64, Access, Heap, Types, Cast, Unknown, ref_to, row_or, form_of, aggregate_rows, bulk_rows}
-use Rattle.gu_syntax.specs.Expressions.{merged}
+use Rattle.gu_syntax.specs.Expressions.{merged, Entry}
 use Rattle.gu_syntax.specs.Sections.{funcref}
 
 -- what the grammar asks at a place
@@ -519,16 +519,20 @@ run_at text = both_at u32_at val_at text
 abbrev pub locals_at : List ℕ → Read (List (ℕ × ValType))
 locals_at text = made_at merged (vector_at run_at) text
 
-abbrev pub entry_of : (ty : ℕ) → List (ℕ × ValType) × Body → Func
-entry_of ty x = record { ty = ty; locals = x.0; body = x.1 }
+abbrev pub entry_at : (room : ℕ) → List ℕ → Read Entry
+entry_at room text = sized_at (both_at locals_at (body_at room)) text
 
-abbrev pub entry_at : (room ty : ℕ) → List ℕ → Read Func
-entry_at room ty text = sized_at (made_at (entry_of ty) (both_at locals_at (body_at room))) text
+-- the function of this type that an entry makes
+abbrev pub entry_of : (ty : ℕ) → Entry → Func
+entry_of ty entry = record { ty = ty; locals = entry.0; body = entry.1 }
+
+abbrev pub func_at : (room ty : ℕ) → List ℕ → Read Func
+func_at room ty text = made_at (entry_of ty) (entry_at room) text
 
 -- a code entry for each of these types
 abbrev pub entries_at : (room : ℕ) → List ℕ → List ℕ → Read (List Func)
 entries_at room [] text = got [] text
-entries_at room (ty ∷ tys) text = entry_at room ty text >>= λ func rest. entries_at room tys rest >>= λ funcs behind. got (func ∷ funcs) behind
+entries_at room (ty ∷ tys) text = func_at room ty text >>= λ func rest. entries_at room tys rest >>= λ funcs behind. got (func ∷ funcs) behind
 
 -- sections (5.5.2 Sections)
 

@@ -4,6 +4,8 @@ ghost use Rattle.gu_syntax.specs.Laws.{OneModule, EncodingSpells, SpelledIsShape
 ghost use Rattle.gu_syntax.specs.Laws.{ModuleAgain, ModuleTaken, StopsInside};
 ghost use Rattle.gu_syntax.specs.Laws.{RefusedIsUnspelled, MalformedIsUnspelled, OutsideIsUnspelled};
 ghost use Rattle.gu_syntax.specs.Laws.{ShallowIsRead, DeepIsUnspelled};
+ghost use Rattle.gu_syntax.specs.Laws.{GroupsAgain, GroupsTaken, GroupsRefused, GroupsStopInside};
+ghost use Rattle.gu_syntax.specs.Laws.{EntryAgain, ShallowEntryAgain, EntryTaken, EntryRefused, EntryStopsInside};
 
 /// A text spells at most one module, and the encoding of every module that is short enough to be
 /// written spells it.
@@ -34,4 +36,25 @@ pub fn refused_is_unspelled()
     ensures outside { OutsideIsUnspelled }
     ensures deep { DeepIsUnspelled }
     ensures read { ShallowIsRead }
+{}
+
+/// The recursion groups of a type section are read from exactly the texts that begin with them, and
+/// reading passes the bytes that spell them (core specification 3.0, 5.5.4 Type Section). It stops
+/// within all other texts.
+pub fn type_sections_are_read()
+    ensures again { GroupsAgain }
+    ensures taken { GroupsTaken }
+    ensures refused { GroupsRefused }
+    ensures inside { GroupsStopInside }
+{}
+
+/// A code entry is read from exactly the texts that begin with it, where enough blocks may be open,
+/// and reading passes the bytes that spell it (core specification 3.0, 5.5.13 Code Section). It stops
+/// within all others, and within an entry only where that opens a block too deep.
+pub fn code_entries_are_read()
+    ensures again { EntryAgain }
+    ensures shallow { ShallowEntryAgain }
+    ensures taken { EntryTaken }
+    ensures refused { EntryRefused }
+    ensures inside { EntryStopsInside }
 {}
