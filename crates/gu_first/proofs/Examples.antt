@@ -78,6 +78,42 @@ traps : trace (one [] [] (I.Unreachable ∷ [])) (record { moves = Call 0 [] ∷
 unfolding ins_of code_row do_act pop spend
 traps = refl
 
+-- a module with two functions without parameters and results, of which the first is exported
+abbrev two : (outer inner : List Instr) → Module
+two outer inner = record {
+  types = record { groups = record { types = record { is_final = true; supers = []; comp = C.Func [] [] } ∷ [] } ∷ [] };
+  imports = [];
+  funcs = record { ty = 0; locals = []; body = record { code = outer } } ∷ record { ty = 0; locals = []; body = record { code = inner } } ∷ [];
+  tables = [];
+  memories = [];
+  tags = [];
+  globals = [];
+  exports = record { name = []; kind = K.Func; index = 0 } ∷ [];
+  start = None;
+  elems = [];
+  has_count = false;
+  segs = [];
+}
+
+-- each call takes a step, and so does the export's own: two calls, one behind the other, need three steps
+three_steps : trace (two (I.Call 1 ∷ I.Call 1 ∷ []) []) (calls []) 3 ≡ Instance ∷ Result [] ∷ []
+unfolding ins_of code_row do_act pop spend
+three_steps = refl
+
+not_two : trace (two (I.Call 1 ∷ I.Call 1 ∷ []) []) (calls []) 2 ≡ Instance ∷ []
+unfolding ins_of code_row do_act pop spend
+not_two = refl
+
+-- the steps that are left go to the next move
+steps_go_on : trace (two (I.Call 1 ∷ []) []) (record { moves = Call 0 [] ∷ Call 0 [] ∷ [] }) 3 ≡ Instance ∷ Result [] ∷ []
+unfolding ins_of code_row do_act pop spend
+steps_go_on = refl
+
+-- a trap ends its caller too, and the code behind the call is not run
+traps_inside : trace (two (I.Call 1 ∷ I.Call 1 ∷ []) (I.Unreachable ∷ [])) (calls []) 2 ≡ Instance ∷ Trap ∷ []
+unfolding ins_of code_row do_act pop spend
+traps_inside = refl
+
 -- with no step left a call shows nothing
 spent_early : trace (one [] (V.I32 ∷ []) returning) (calls []) 0 ≡ Instance ∷ []
 unfolding ins_of code_row do_act pop spend
