@@ -14,4 +14,5 @@ pub mod Writing
 pub mod Shaped
 pub mod Narrow
 pub mod Shallow
+pub mod Nested
 pub mod Alone

@@ -61,7 +61,7 @@ keep_headed D item d e h (b ∷ text) rest x g k = h (suc (length text)) b text 
 
 -- expressions
 
-abbrev Within : ℕ → Code × Bool → Type 0
+abbrev pub Within : ℕ → Code × Bool → Type 0
 Within room x = NestsWithin room x.0
 
 suc_is : (a b : ℕ) → suc a ≡ suc b → a ≡ b
@@ -191,7 +191,7 @@ keep_until (suc fuel) room more split fits text rest x g d =
 split_not : false ≡ true → ⊥
 split_not h = cc
 
-read_back : (fuel more : ℕ) (text mid : List ℕ) (x : Code × Bool) → until_at fuel more false text ≡ got x mid → code_of (list_of x.0) ≡ x.0
+pub read_back : (fuel more : ℕ) (text mid : List ℕ) (x : Code × Bool) → until_at fuel more false text ≡ got x mid → code_of (list_of x.0) ≡ x.0
 unfolding Ended
 read_back fuel more text mid x h =
     let t = (until_decodes fuel more 0 false (omega arith) (omega arith)).taken text mid x h in
@@ -210,7 +210,7 @@ keep_body room more fits text rest body g d =
 
 -- ways to read
 
-abbrev Any : {X : Type 0} → X → Type 0
+abbrev pub Any : {X : Type 0} → X → Type 0
 Any x = Unit {0}
 
 keep_any : {X : Type 0} (p : List ℕ → Read X) → Keeps (Any {X = X}) p p
@@ -398,7 +398,7 @@ keep_section {X} D id nothing p q h (b ∷ text) rest x g d =
 keep_list : {X : Type 0} (D : X → Type 0) (id : ℕ) (p q : List ℕ → Read X) → Keeps D p q → Keeps (AllByRecursion D) (list_at id p) (list_at id q)
 keep_list D id p q h = keep_section (AllByRecursion D) id [] (vector_at p) (vector_at q) (keep_vector D p q h)
 
-abbrev ShallowLate : ℕ → Late → Type 0
+abbrev pub ShallowLate : ℕ → Late → Type 0
 ShallowLate room x = Any x.0 × (AllByRecursion (NestsFunc room) x.1.0 × AllByRecursion (NestsSeg room) x.1.1)
 
 keep_late : (room more : ℕ) → room ≤ more → (tys : List ℕ) → Keeps (ShallowLate room) (late_at room tys) (late_at more tys)
@@ -406,25 +406,25 @@ keep_late room more fits tys =
     let count = section_at 12 None (made_at some u32_at) in
     keep_then Any (λ x. AllByRecursion (NestsFunc room) x.0 × AllByRecursion (NestsSeg room) x.1) count count (λ said. both_at (section_at 10 [] (bodies_at room tys)) (section_at 11 [] (segs_at room said))) (λ said. both_at (section_at 10 [] (bodies_at more tys)) (section_at 11 [] (segs_at more said))) (keep_any count) (λ said. keep_both (AllByRecursion (NestsFunc room)) (AllByRecursion (NestsSeg room)) (section_at 10 [] (bodies_at room tys)) (section_at 10 [] (bodies_at more tys)) (section_at 11 [] (segs_at room said)) (section_at 11 [] (segs_at more said)) (keep_section (AllByRecursion (NestsFunc room)) 10 [] (bodies_at room tys) (bodies_at more tys) (keep_bodies room more fits tys)) (keep_section (AllByRecursion (NestsSeg room)) 11 [] (segs_at room said) (segs_at more said) (keep_data room more fits said)))
 
-abbrev Shallow9 : ℕ → List Elem × Late → Type 0
+abbrev pub Shallow9 : ℕ → List Elem × Late → Type 0
 Shallow9 room x = AllByRecursion (NestsElem room) x.0 × ShallowLate room x.1
 
-abbrev Shallow8 : ℕ → Option ℕ × (List Elem × Late) → Type 0
+abbrev pub Shallow8 : ℕ → Option ℕ × (List Elem × Late) → Type 0
 Shallow8 room x = Any x.0 × Shallow9 room x.1
 
-abbrev Shallow7 : ℕ → List Export × (Option ℕ × (List Elem × Late)) → Type 0
+abbrev pub Shallow7 : ℕ → List Export × (Option ℕ × (List Elem × Late)) → Type 0
 Shallow7 room x = Any x.0 × Shallow8 room x.1
 
-abbrev Shallow6 : ℕ → List Global × (List Export × (Option ℕ × (List Elem × Late))) → Type 0
+abbrev pub Shallow6 : ℕ → List Global × (List Export × (Option ℕ × (List Elem × Late))) → Type 0
 Shallow6 room x = AllByRecursion (NestsGlobal room) x.0 × Shallow7 room x.1
 
-abbrev Shallow13 : ℕ → List ℕ × (List Global × (List Export × (Option ℕ × (List Elem × Late)))) → Type 0
+abbrev pub Shallow13 : ℕ → List ℕ × (List Global × (List Export × (Option ℕ × (List Elem × Late)))) → Type 0
 Shallow13 room x = Any x.0 × Shallow6 room x.1
 
-abbrev Shallow5 : ℕ → List Limits × (List ℕ × (List Global × (List Export × (Option ℕ × (List Elem × Late))))) → Type 0
+abbrev pub Shallow5 : ℕ → List Limits × (List ℕ × (List Global × (List Export × (Option ℕ × (List Elem × Late))))) → Type 0
 Shallow5 room x = Any x.0 × Shallow13 room x.1
 
-abbrev ShallowMiddle : ℕ → Middle → Type 0
+abbrev pub ShallowMiddle : ℕ → Middle → Type 0
 ShallowMiddle room x = AllByRecursion (NestsTable room) x.0 × Shallow5 room x.1
 
 keep_middle : (room more : ℕ) → room ≤ more → (tys : List ℕ) → Keeps (ShallowMiddle room) (middle_at room tys) (middle_at more tys)
@@ -451,7 +451,7 @@ keep_middle room more fits tys =
     (keep_both (AllByRecursion (NestsElem room)) (ShallowLate room) (list_at 9 (elem_at room)) (list_at 9 (elem_at more)) (late_at room tys) (late_at more tys) (keep_list (NestsElem room) 9 (elem_at room) (elem_at more) (keep_elems room more fits))
     (keep_late room more fits tys)))))))
 
-abbrev ShallowAll : ℕ → All → Type 0
+abbrev pub ShallowAll : ℕ → All → Type 0
 ShallowAll room x = Any x.0 × (Any x.1.0 × (Any x.1.1.0 × ShallowMiddle room x.1.1.1))
 
 keep_all : (room more : ℕ) → room ≤ more → Keeps (ShallowAll room) (all_at room) (all_at more)
@@ -465,7 +465,7 @@ keep_all room more fits =
 shallow_all : (room : ℕ) (x : All) → IsShallow room (module_of x) → ShallowAll room x
 shallow_all room x s = (tt, (tt, (tt, (s.tables, (tt, (tt, (s.globals, (tt, (tt, (s.elems, (tt, (s.funcs, s.segs))))))))))))
 
-end_is : (due : Bool) (m n : Module) (text rest : List ℕ) → end_at due m text ≡ got n rest → m ≡ n
+pub end_is : (due : Bool) (m n : Module) (text rest : List ℕ) → end_at due m text ≡ got n rest → m ≡ n
 end_is true m n [] rest h = absurd (refused-got _ 0 n rest h)
 end_is false m n [] rest h = value_is m n [] rest h
 end_is due m n (b ∷ text) rest h = absurd (refused-got _ (length (b ∷ text)) n rest h)

@@ -57,6 +57,10 @@ OutsideIsUnspelled = (text : List ℕ) (place code : ℕ) (m : Module) → IsOut
 abbrev pub ShallowIsRead : Type 0
 ShallowIsRead = (room : ℕ) (text : List ℕ) (m : Module) → Spells text m → IsShallow room m → module_at room text ≡ got m []
 
+-- a module that is read needs no more blocks open than may be
+abbrev pub ReadIsShallow : Type 0
+ReadIsShallow = (room : ℕ) (text rest : List ℕ) (m : Module) → module_at room text ≡ got m rest → IsShallow room m
+
 -- where a block is opened too deep the text spells no module that nests at most 1,000 deep
 abbrev pub DeepIsUnspelled : Type 0
 DeepIsUnspelled = (text : List ℕ) (place : ℕ) (m : Module) → NestsTooDeep text place → Spells text m → IsShallow 1000 m → ⊥
@@ -93,6 +97,10 @@ ShallowEntryAgain = (room : ℕ) (entry : Entry) (front rest : List ℕ) → Spe
 -- the entry that is read is spelled by the bytes that reading passes
 abbrev pub EntryTaken : Type 0
 EntryTaken = (room : ℕ) (text rest : List ℕ) (entry : Entry) → entry_at room text ≡ got entry rest → BeginsWith (SpellsEntry entry) text rest
+
+-- and its body needs no more blocks open than may be
+abbrev pub ReadEntryNests : Type 0
+ReadEntryNests = (room : ℕ) (text rest : List ℕ) (entry : Entry) → entry_at room text ≡ got entry rest → NestsBody room entry.1
 
 -- where reading stops, the text begins with no entry, but one that opens a block too deep
 abbrev pub EntryRefused : Type 0

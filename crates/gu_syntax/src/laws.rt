@@ -3,9 +3,10 @@
 ghost use Rattle.gu_syntax.specs.Laws.{OneModule, EncodingSpells, SpelledIsShaped};
 ghost use Rattle.gu_syntax.specs.Laws.{ModuleAgain, ModuleTaken, StopsInside};
 ghost use Rattle.gu_syntax.specs.Laws.{RefusedIsUnspelled, MalformedIsUnspelled, OutsideIsUnspelled};
-ghost use Rattle.gu_syntax.specs.Laws.{ShallowIsRead, DeepIsUnspelled};
+ghost use Rattle.gu_syntax.specs.Laws.{ShallowIsRead, ReadIsShallow, DeepIsUnspelled};
 ghost use Rattle.gu_syntax.specs.Laws.{GroupsAgain, GroupsTaken, GroupsRefused, GroupsStopInside};
-ghost use Rattle.gu_syntax.specs.Laws.{EntryAgain, ShallowEntryAgain, EntryTaken, EntryRefused, EntryStopsInside};
+ghost use Rattle.gu_syntax.specs.Laws.{EntryAgain, ShallowEntryAgain, EntryTaken, ReadEntryNests};
+ghost use Rattle.gu_syntax.specs.Laws.{EntryRefused, EntryStopsInside};
 
 /// A text spells at most one module, and the encoding of every module that is short enough to be
 /// written spells it.
@@ -28,14 +29,15 @@ pub fn spelled_is_shaped()
     ensures { SpelledIsShaped }
 {}
 
-/// A text that is refused spells no module, but that its blocks may be too deep; and a module whose
-/// blocks are not too deep is read.
+/// A text that is refused spells no module, but that its blocks may be too deep; and the modules that
+/// are read are those whose blocks are not too deep.
 pub fn refused_is_unspelled()
     ensures refused { RefusedIsUnspelled }
     ensures malformed { MalformedIsUnspelled }
     ensures outside { OutsideIsUnspelled }
     ensures deep { DeepIsUnspelled }
     ensures read { ShallowIsRead }
+    ensures shallow { ReadIsShallow }
 {}
 
 /// The recursion groups of a type section are read from exactly the texts that begin with them, and
@@ -50,11 +52,12 @@ pub fn type_sections_are_read()
 
 /// A code entry is read from exactly the texts that begin with it, where enough blocks may be open,
 /// and reading passes the bytes that spell it (core specification 3.0, 5.5.13 Code Section). It stops
-/// within all others, and within an entry only where that opens a block too deep.
+/// within all others, and within an entry exactly where that opens a block too deep.
 pub fn code_entries_are_read()
     ensures again { EntryAgain }
     ensures shallow { ShallowEntryAgain }
     ensures taken { EntryTaken }
+    ensures nests { ReadEntryNests }
     ensures refused { EntryRefused }
     ensures inside { EntryStopsInside }
 {}
