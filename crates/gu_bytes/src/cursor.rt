@@ -59,6 +59,15 @@ impl<'a> Cursor<'a> {
         self.rest.len()
     }
 
+    /// The bytes that are left, which are not passed. With those that are passed they are fewer than
+    /// 2^64.
+    pub fn rest(&self) -> &'a [u8]
+        ensures rest { result.now ≡ self.now.rest }
+        ensures fits { self.now.at + length self.now.rest < 2 ^ 64 }
+    {
+        self.rest
+    }
+
     /// Passes one byte and gives it (core specification 3.0, 5.2.1 Bytes).
     ///
     /// `Bad` where no byte is left; the cursor then stays.

@@ -1,0 +1,79 @@
+-- Numbers of types and functions, against the limits on them.
+use Rattle.std.proofs.Common.{ℕ, ◌+◌, ◌≤◌, ◌<◌, ◌≡◌, refl, ap, ◌∙◌, sym, cond, not, if◌then◌else◌, nat_lt, length, get_or, map, arith, List, [], ◌∷◌, Bool, true, false, Some, None}
+use Rattle.std.specs.Prelude.{sum_by}
+use Rattle.std.specs.List.{prefix_len, position_or_len}
+use Rattle.std.proofs.lemmas.List.{length-map}
+use Rattle.std.proofs.lemmas.List.Sums.{sum_by-cons, position_or_len_is}
+use Rattle.gu_syntax.specs.declared.module.Func.{Func}
+use Rattle.gu_read.specs.Limits.{first_above, locals_of}
+use Rattle.gu_read.specs.Rows.{capped}
+use Rattle.gu_read.proofs.Answered.{first_of, within, is_above, none_within, first_within, above_true}
+
+-- the first number above a limit
+pub above_found : (most : ℕ) (xs : List ℕ) (i : ℕ) → i < length xs → ((k : ℕ) → k < i → nat_lt most (get_or xs k 0) ≡ false) → most < get_or xs i 0 → Some i ≡ first_above (λ n. n) most xs
+above_found most xs i below before above =
+    let e : position_or_len (λ n. nat_lt most n) xs ≡ i = position_or_len_is (λ n. nat_lt most n) xs i 0 (omega (arith, below)) before (λ l. above_true most (get_or xs i 0) above) in
+    sym (ap (λ n. first_of n (length xs)) e ∙ ap (λ b. if b then Some i else None) (above_true i (length xs) below))
+
+not_self : (n : ℕ) → nat_lt n n ≡ false
+not_self n = grind arith
+
+pub above_none : (most : ℕ) (xs : List ℕ) → ((k : ℕ) → k < length xs → nat_lt most (get_or xs k 0) ≡ false) → None ≡ first_above (λ n. n) most xs
+above_none most xs before =
+    let e : position_or_len (λ n. nat_lt most n) xs ≡ length xs = position_or_len_is (λ n. nat_lt most n) xs (length xs) 0 (omega arith) before (λ l. absurd (omega (arith, l))) in
+    sym (ap (λ n. first_of n (length xs)) e ∙ ap (λ b. if b then Some (length xs) else None) (not_self (length xs)))
+
+-- the same of what has the numbers
+within_map : {X : Type 0} (f : X → ℕ) (most : ℕ) (xs : List X) → prefix_len (λ n. not (nat_lt most n)) (map f xs) ≡ prefix_len (λ x. not (nat_lt most (f x))) xs
+within_map f most [] = refl
+within_map f most (x ∷ xs) = ap (λ n. cond (not (nat_lt most (f x))) (1 + n) 0) (within_map f most xs)
+
+pub above_map : {X : Type 0} (f : X → ℕ) (most : ℕ) (xs : List X) → first_above (λ n. n) most (map f xs) ≡ first_above f most xs
+above_map f most xs = ap (λ n. first_of n (length (map f xs))) (within_map f most xs) ∙ ap (λ n. first_of (prefix_len (λ x. not (nat_lt most (f x))) xs) n) (length-map xs f)
+
+within_views : {X Y : Type 0} (v : X → Y) (f : Y → ℕ) (most : ℕ) (xs : List X) → prefix_len (λ x. not (nat_lt most (f (v x)))) xs ≡ prefix_len (λ y. not (nat_lt most (f y))) (map v xs)
+within_views v f most [] = refl
+within_views v f most (x ∷ xs) = ap (λ n. cond (not (nat_lt most (f (v x)))) (1 + n) 0) (within_views v f most xs)
+
+pub above_views : {X Y : Type 0} (v : X → Y) (f : Y → ℕ) (most : ℕ) (xs : List X) → first_above (λ n. n) most (map (λ x. f (v x)) xs) ≡ first_above f most (map v xs)
+above_views v f most xs = above_map (λ x. f (v x)) most xs ∙ (ap (λ n. first_of n (length xs)) (within_views v f most xs) ∙ ap (λ n. first_of (prefix_len (λ y. not (nat_lt most (f y))) (map v xs)) n) (sym (length-map xs v)))
+
+-- locals that are counted up to the limit
+capped_test : (n : ℕ) (b : Bool) → nat_lt 50000 n ≡ b → nat_lt 50000 (if b then 50001 else n) ≡ b
+capped_test n true e = refl
+capped_test n false e = e
+
+capped_above : (n : ℕ) → nat_lt 50000 (capped n) ≡ nat_lt 50000 n
+capped_above n = capped_test n (nat_lt 50000 n) refl
+
+within_capped : (funcs : List Func) → prefix_len (λ f. not (nat_lt 50000 (capped (locals_of f)))) funcs ≡ within funcs
+within_capped [] = refl
+within_capped (f ∷ fs) = ap (λ b. cond (not b) (1 + prefix_len (λ g. not (nat_lt 50000 (capped (locals_of g)))) fs) 0) (capped_above (locals_of f)) ∙ ap (λ n. cond (not (is_above f)) (1 + n) 0) (within_capped fs)
+
+pub above_capped : (funcs : List Func) → first_above (λ n. n) 50000 (map (λ f. capped (locals_of f)) funcs) ≡ first_above locals_of 50000 funcs
+above_capped funcs = above_map (λ f. capped (locals_of f)) 50000 funcs ∙ ap (λ n. first_of n (length funcs)) (within_capped funcs)
+
+capped_same : (n : ℕ) → nat_lt 50000 n ≡ false → capped n ≡ n
+capped_same n e = ap (λ b. if b then 50001 else n) e
+
+sum_within : (funcs : List Func) → length funcs ≤ within funcs → sum_by (λ f. capped (locals_of f)) funcs ≡ sum_by locals_of funcs
+sum_within [] h = refl
+sum_within (f ∷ fs) h =
+    let w = first_within f fs h in
+    sum_by-cons (λ g. capped (locals_of g)) f fs ∙ ap (λ n. n + sum_by (λ g. capped (locals_of g)) fs) (capped_same (locals_of f) w.0) ∙ ap (λ n. locals_of f + n) (sum_within fs w.1) ∙ sym (sum_by-cons locals_of f fs)
+
+pub sum_capped : (funcs : List Func) → first_above locals_of 50000 funcs ≡ None → sum_by (λ f. capped (locals_of f)) funcs ≡ sum_by locals_of funcs
+sum_capped funcs h = sum_within funcs (none_within funcs h)
+
+pub capped_small : (n : ℕ) → capped n ≤ 50001
+capped_small n = by_test (nat_lt 50000 n) refl
+  where
+    by_test : (b : Bool) → nat_lt 50000 n ≡ b → (if b then 50001 else n) ≤ 50001
+    by_test true e = omega arith
+    by_test false e = grind (arith, e)
+
+pub capped_more : (n : ℕ) → 50000 < n → 50001 ≡ capped n
+capped_more n h = sym (ap (λ b. if b then 50001 else n) (above_true 50000 n h))
+
+pub capped_less : (n : ℕ) → n ≤ 50000 → n ≡ capped n
+capped_less n h = let e : nat_lt 50000 n ≡ false = grind (arith, h) in sym (capped_same n e)

@@ -1,0 +1,11 @@
+pub mod Runs
+pub mod Ends
+pub mod Pieces
+pub mod Passed
+pub mod Closing
+pub mod Wholes
+pub mod Answered
+pub mod Depths
+pub mod Flat
+pub mod Counting
+pub mod Rowing

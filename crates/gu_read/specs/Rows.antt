@@ -1,0 +1,24 @@
+-- The limits on the parts of a module, some rows at a time.
+use Rattle.std.specs.Prelude.{ℕ, List, [], ◌∷◌, sum_by, nat_lt, if◌then◌else◌, Option}
+use Rattle.gu_types.specs.declared.types.SubType.{SubType}
+use Rattle.gu_syntax.specs.declared.module.Func.{Func}
+use Rattle.gu_syntax.specs.declared.module.Module.{Module}
+use Rattle.gu_read_parts.specs.declared.answer.Which.{Which}
+use Rattle.gu_read_parts.specs.declared.answer.Which.TheVariants as W
+use Rattle.gu_read.specs.Limits.{if_above, first_above, params_of, results_of, fields_of, funcs_in, globals_in, locals_of, first_deeper}
+
+-- a number, or one more than the limit on locals where it is above that
+abbrev pub capped : ℕ → ℕ
+capped n = if nat_lt 50000 n then 50001 else n
+
+abbrev pub first_rows : (types : ℕ) → Module → List (Which × Option ℕ)
+first_rows types m = (W.Types, if_above 1000000 types) ∷ (W.Funcs, if_above 1000000 (funcs_in m)) ∷ (W.Globals, if_above 1000000 (globals_in m)) ∷ []
+
+abbrev pub type_rows : List SubType → List (Which × Option ℕ)
+type_rows types = (W.Params, first_above (λ ty. params_of ty.comp) 1000 types) ∷ (W.Results, first_above (λ ty. results_of ty.comp) 1000 types) ∷ (W.Fields, first_above (λ ty. fields_of ty.comp) 10000 types) ∷ []
+
+abbrev pub local_rows : List Func → List (Which × Option ℕ)
+local_rows funcs = (W.Locals, first_above locals_of 50000 funcs) ∷ (W.ModuleLocals, if_above 4000000 (sum_by locals_of funcs)) ∷ []
+
+abbrev pub depth_rows : List SubType → List (Which × Option ℕ)
+depth_rows types = (W.Depth, first_deeper 63 types) ∷ []

@@ -1,0 +1,161 @@
+//! The entries of the code section, read in parallel (core specification 3.0, 5.5.13 Code Section).
+//! They are found by their sizes first, in batches of about equal bytes, so that many small ones are
+//! not a task each. The first failure in order is answered.
+ghost use Rattle.std.specs.Prelude.{◌≡◌, ◌+◌, ◌<◌, ◌≤◌, [], take, length, IfOk};
+ghost use Rattle.std.specs.List.{AllZip};
+ghost use Rattle.gu_syntax.specs.Reading.{func_at, entries_at};
+ghost use Rattle.gu_read_parts.specs.Gives.{left_of, left_at};
+ghost use Rattle.gu_read.specs.Standing.{StandsFor, AllStandFor, GivesBy, GivesFront};
+ghost use Rattle.gu_read.specs.Batches.{EndsAt, Follow, Joins};
+
+use crate::batches::Batch;
+use gu_read_code::{Entry, code_entry};
+use gu_read_parts::{Stop, read_content};
+use gu_syntax::{Body, Func};
+use gu_types::{List, ValType};
+use rayon::prelude::*;
+use std::alloc::{AllocError, Global};
+use std::thread::Threads;
+
+/// How many bytes of entries make a batch, at least, but for the last one.
+const BATCH: usize = 65536;
+
+/// The entries of these types, one behind another, at the front of the bytes.
+pub fn read_entries<'a>(
+    rt: &(impl Threads + Sync),
+    alloc: Global,
+    tys: &'a [u32],
+    bytes: &'a [u8],
+) -> Result<(List<Func>, &'a [u8]), Stop>
+    ensures value { GivesBy AllStandFor result (entries_at 1000 tys.now bytes.now) }
+    ensures inside { left_of result ≤ length bytes.now }
+{
+    if bytes.len() <= BATCH {
+        return read_run(alloc, tys, bytes);
+    }
+    let (batches, rest) = find_batches(alloc, tys, bytes)?;
+    let pieces = read_batches(rt, alloc, batches.as_slice())?;
+    let funcs = join_pieces(alloc, pieces)?;
+    Ok((funcs, rest))
+}
+
+/// The entries of these types, one behind another, read one by one.
+fn read_run<'a>(alloc: Global, tys: &[u32], bytes: &'a [u8]) -> Result<(List<Func>, &'a [u8]), Stop>
+    ensures value { GivesBy AllStandFor result (entries_at 1000 tys.now bytes.now) }
+    ensures inside { left_of result ≤ length bytes.now }
+{
+    let mut funcs = List::new(alloc);
+    let mut rest = bytes;
+    'entries: for ty in tys {
+        let (func, behind) = read_func(alloc, *ty, rest)?;
+        funcs.push(func)?;
+        rest = behind;
+    }
+    Ok((funcs, rest))
+}
+
+/// The function of a type at the front of the bytes. Where its locals are more than the tree can hold
+/// another stands for it, whose locals exceed the limit as well.
+fn read_func(alloc: Global, ty: u32, bytes: &[u8]) -> Result<(Func, &[u8]), Stop>
+    ensures value { GivesBy StandsFor result (func_at 1000 ty bytes.now) }
+    ensures inside { left_of result ≤ length bytes.now }
+{
+    let (entry, rest) = code_entry(alloc, bytes)?;
+    match entry {
+        Entry::Whole { locals, body } => Ok((Func { ty, locals, body }, rest)),
+        Entry::TooMany => {
+            let mut locals = List::new(alloc);
+            locals.push((u32::MAX, ValType::I32))?;
+            let code = List::new(alloc);
+            let body = Body { code };
+            Ok((Func { ty, locals, body }, rest))
+        }
+    }
+}
+
+/// The batches that the entries of these types make, and the bytes behind them. Where an entry's size
+/// is not there the batch that it is in has all that follow.
+fn find_batches<'a>(
+    alloc: Global,
+    tys: &'a [u32],
+    bytes: &'a [u8],
+) -> Result<(Vec<Batch<'a>>, &'a [u8]), AllocError>
+    ensures follow { IfOk result (λ x. Follow x.0.items tys.now bytes.now [] x.1.now) }
+    ensures inside { IfOk result (λ x. length x.1.now ≤ length bytes.now) }
+{
+    let mut batches = Vec::new(alloc);
+    let mut tys = tys;
+    let mut rest = bytes;
+    'batches: while !tys.is_empty() {
+        let (count, behind) = pass_batch(tys, rest);
+        let (these, others) = tys.split_at(count);
+        batches.push(Batch {
+            tys: these,
+            bytes: rest,
+        })?;
+        tys = others;
+        rest = behind;
+    }
+    Ok((batches, rest))
+}
+
+/// How many of the entries of these types make the first batch, and the bytes behind it.
+fn pass_batch<'a>(tys: &[u32], bytes: &'a [u8]) -> (usize, &'a [u8])
+    requires { 0 < length tys.now }
+    ensures some { 0 < result.0 }
+    ensures most { result.0 ≤ length tys.now }
+    ensures ends { EndsAt (take result.0 tys.now) bytes.now result.1.now }
+    ensures inside { length result.1.now ≤ length bytes.now }
+{
+    let mut rest = bytes;
+    'entries: for index in 0..tys.len() {
+        let Ok((_, behind)) = read_content(rest) else {
+            return (tys.len(), rest);
+        };
+        rest = behind;
+        if BATCH <= bytes.len() - rest.len() {
+            return (index + 1, rest);
+        }
+    }
+    (tys.len(), rest)
+}
+
+/// The functions of each batch.
+fn read_batches(
+    rt: &(impl Threads + Sync),
+    alloc: Global,
+    batches: &[Batch<'_>],
+) -> Result<Vec<Result<List<Func>, Stop>>, AllocError>
+    ensures { IfOk result (λ v. AllZip (λ b r. GivesFront AllStandFor r (entries_at 1000 b.tys.now b.bytes.now)) batches.now v.items) }
+{
+    batches
+        .par_iter()
+        .with_min_len(1)
+        .map(
+            |batch: &Batch<'_>| -> Result<List<Func>, Stop>
+                ensures { GivesFront AllStandFor result (entries_at 1000 batch.now.tys.now batch.now.bytes.now) }
+            { read_batch(alloc, batch) },
+        )
+        .collect::<Vec<Result<List<Func>, Stop>>>(rt, alloc)
+}
+
+/// The functions of a batch.
+fn read_batch(alloc: Global, batch: &Batch<'_>) -> Result<List<Func>, Stop>
+    ensures { GivesFront AllStandFor result (entries_at 1000 batch.now.tys.now batch.now.bytes.now) }
+{
+    let (funcs, _) = read_run(alloc, batch.tys, batch.bytes)?;
+    Ok(funcs)
+}
+
+/// The functions of pieces, one behind another, or the failure of the first piece that has one.
+fn join_pieces(alloc: Global, pieces: Vec<Result<List<Func>, Stop>>) -> Result<List<Func>, Stop>
+    ensures { Joins pieces.items result }
+{
+    let mut all = Vec::new(alloc);
+    'pieces: for piece in pieces {
+        let funcs = piece?;
+        let mut more = funcs.into_vec();
+        all.append(&mut more)?;
+    }
+    Ok(List::from_vec(all))
+}

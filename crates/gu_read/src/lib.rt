@@ -1,0 +1,17 @@
+//! The reader of modules (core specification 3.0, 5.5 Modules).
+#![tactic(auto)]
+
+mod batches;
+mod elems;
+mod entries;
+mod items;
+mod limits;
+mod missing;
+mod module;
+mod parts;
+mod reader;
+mod sections;
+#[cfg(test)]
+mod tests;
+
+pub use reader::read_module;

@@ -1,0 +1,15 @@
+//! The reader of expressions and of code entries in the whole format (core specification 3.0, 5.4
+//! Instructions, 5.5.13 Code Section).
+#![tactic(auto)]
+
+mod blocks;
+mod bodies;
+mod code;
+mod entries;
+mod leaf;
+mod locals;
+#[cfg(test)]
+mod tests;
+
+pub use bodies::{Expressions, expression};
+pub use entries::{Entry, code_entry, read_entry};

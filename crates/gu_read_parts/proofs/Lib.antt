@@ -1,0 +1,3 @@
+pub mod Vectors
+pub mod Names
+pub mod Answering

@@ -1,0 +1,2 @@
+pub mod Blockless
+pub mod Typed
