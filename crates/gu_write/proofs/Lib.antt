@@ -1,0 +1,4 @@
+pub mod Sums
+pub mod Joined
+pub mod Whole
+pub mod Examples

@@ -1,0 +1,13 @@
+//! Writing modules in their least spelling (core specification 3.0, chapter 5 Binary Format).
+#![tactic(auto)]
+
+mod code;
+mod items;
+mod module;
+mod segments;
+#[cfg(test)]
+mod tests;
+mod types;
+
+pub use gu_write_parts::WriteErr;
+pub use module::write_module;

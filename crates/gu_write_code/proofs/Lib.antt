@@ -1,0 +1,4 @@
+pub mod Kinded
+pub mod Codes
+pub mod Entries
+pub mod Examples
