@@ -1,0 +1,21 @@
+mod Examples
+pub mod Same
+pub mod Below
+pub mod Keys
+pub mod Fill
+pub mod Closing
+pub mod Numbers
+pub mod Groups
+pub mod Interned
+pub mod Lines
+pub mod Places
+pub mod Queries
+pub mod Entries
+pub mod Seats
+pub mod Order
+pub mod Decided
+pub mod Antisymmetric
+pub mod Climbing
+pub mod Standing
+pub mod Heights
+pub mod Raising

@@ -1,0 +1,10 @@
+pub mod Names
+pub mod Closed
+pub mod Tests
+pub mod Sub
+pub mod Validity
+pub mod Laws
+pub mod Keys
+pub mod Cause
+pub mod Table
+pub mod Heights

@@ -1,0 +1,147 @@
+//! The heights of types, found for all of them at once.
+ghost use Rattle.std.specs.Prelude.{◌≡◌, ◌<◌, ◌≤◌, ◌+◌, ℕ, suc, Some, length, slice_get, option_map, IfOk};
+ghost use Rattle.gu_types.specs.declared.types.TypeList.{TypeList as Listed};
+ghost use Rattle.gu_types.specs.declared.types.HeapType.TheVariants as H;
+ghost use Rattle.gu_types.specs.Depth.{types_of};
+ghost use Rattle.gu_rec.specs.declared.types.Entry.{Entry as Kept};
+ghost use Rattle.gu_rec.specs.Sub as sub;
+ghost use Rattle.gu_rec.specs.Tests.{eq_abs};
+ghost use Rattle.gu_rec.specs.Table.{place, IsTable, EntriesAre};
+ghost use Rattle.gu_rec.specs.Heights.{Raise, HeightsTo, HeightsAre, TopsAre};
+ghost use Rattle.gu_rec.specs.Heights as heights;
+
+use crate::abs::{abs_distance, abs_height};
+use crate::types::Entry;
+use gu_types::{Abs, HeapType};
+use std::alloc::{AllocError, Global};
+
+/// Raises one of the heights to a number of steps, where it is less.
+fn raise(heights: &mut Vec<u32>, own: usize, steps: u32)
+    requires { own < length heights.old.items }
+    ensures { Raise heights.old.items heights.new.items own steps }
+{
+    if heights[own] < steps {
+        heights[own] = steps;
+    }
+}
+
+/// Raises the heights of a type and of those above it to the steps that lead up to each.
+fn raise_line(heights: &mut Vec<u32>, least: &[u32], entries: &[Entry], from: usize)
+    requires table { (list : Listed) × IsTable list least.now entries.now }
+    requires long { length heights.old.items ≡ length least.now }
+    requires there { from < length least.now }
+    ensures long { length heights.new.items ≡ length heights.old.items }
+    ensures raised { (list : Listed) → IsTable list least.now entries.now → HeightsTo list least.now heights.old.items from → HeightsTo list least.now heights.new.items (from + 1) }
+{
+    let mut at = from;
+    let mut steps: u32 = 0;
+    'line: loop {
+        raise(heights, least[at] as usize, steps);
+        let entry = entries[at];
+        let Some(above) = entry.parent else {
+            return;
+        };
+        at = above as usize;
+        steps += 1;
+    }
+}
+
+/// The height of each type, at its least index. `AllocError` only where memory is refused.
+pub(crate) fn type_heights(
+    alloc: Global,
+    least: &[u32],
+    entries: &[Entry],
+) -> Result<Vec<u32>, AllocError>
+    requires { (list : Listed) × IsTable list least.now entries.now }
+    ensures { IfOk result (λ heights. (list : Listed) → IsTable list least.now entries.now → HeightsAre list least.now heights.items) }
+{
+    let mut heights = vec![in alloc; 0u32; least.len()]?;
+    for from in 0..least.len() {
+        raise_line(&mut heights, least, entries, from);
+    }
+    Ok(heights)
+}
+
+/// The heights of the abstract heap types that are no bottoms.
+#[derive(Clone, Copy, Debug)]
+pub(crate) struct Tops {
+    any: u32,
+    eq: u32,
+    i31: u32,
+    structs: u32,
+    arrays: u32,
+    funcs: u32,
+    externs: u32,
+    exns: u32,
+}
+
+impl Tops {
+    /// The height of an abstract heap type, 0 of a bottom.
+    pub(crate) fn height(self, kind: Abs) -> u32
+        ensures { result ≡ heights.top_height self kind }
+    {
+        match kind {
+            Abs::Any => self.any,
+            Abs::Eq => self.eq,
+            Abs::I31 => self.i31,
+            Abs::AnyStruct => self.structs,
+            Abs::AnyArray => self.arrays,
+            Abs::AnyFunc => self.funcs,
+            Abs::Extern => self.externs,
+            Abs::Exn => self.exns,
+            _ => 0,
+        }
+    }
+}
+
+/// How many edges lead from an abstract heap type down to a type, by what is kept of it.
+fn edges_to(entry: Entry, top: Abs) -> Option<u32>
+    requires { entry.depth ≤ 63 }
+    ensures { result ≡ option_map (λ k. suc entry.depth + k) (place (eq_abs top) (sub.abs_line entry.kind)) }
+{
+    match abs_distance(top, entry.kind) {
+        None => None,
+        Some(edges) => Some(entry.depth + 1 + edges),
+    }
+}
+
+/// The height of an abstract heap type.
+fn farthest(entries: &[Entry], top: Abs) -> u32
+    requires { (i : ℕ) (entry : Kept) → slice_get entries.now i ≡ Some entry → entry.depth ≤ 63 }
+    ensures { (list : Listed) → EntriesAre (types_of list) entries.now → result ≡ sub.height list (H.Abs top) }
+{
+    let mut most = abs_height(HeapType::Abs(top));
+    for i in 0..entries.len() {
+        if let Some(edges) = edges_to(entries[i], top) {
+            if most < edges {
+                most = edges;
+            }
+        }
+    }
+    most
+}
+
+/// The heights of the abstract heap types, from what is kept of the types.
+pub(crate) fn tops_of(entries: &[Entry]) -> Tops
+    requires { (i : ℕ) (entry : Kept) → slice_get entries.now i ≡ Some entry → entry.depth ≤ 63 }
+    ensures { (list : Listed) → EntriesAre (types_of list) entries.now → TopsAre list result }
+{
+    let any = farthest(entries, Abs::Any);
+    let eq = farthest(entries, Abs::Eq);
+    let i31 = farthest(entries, Abs::I31);
+    let structs = farthest(entries, Abs::AnyStruct);
+    let arrays = farthest(entries, Abs::AnyArray);
+    let funcs = farthest(entries, Abs::AnyFunc);
+    let externs = farthest(entries, Abs::Extern);
+    let exns = farthest(entries, Abs::Exn);
+    Tops {
+        any,
+        eq,
+        i31,
+        structs,
+        arrays,
+        funcs,
+        externs,
+        exns,
+    }
+}

@@ -1,0 +1,31 @@
+//! Where the types of a module stand in its groups.
+ghost use Rattle.std.specs.Prelude.{IfOk};
+ghost use Rattle.gu_rec.specs.Table.{PlacesAre};
+
+use gu_types::TypeList;
+use std::alloc::{AllocError, Global};
+
+/// Where a type stands in the list of a module's types (core specification 3.0, 2.5 Modules,
+/// types).
+#[derive(Clone, Copy, Debug)]
+pub struct Place {
+    /// How many recursion groups stand before its own.
+    pub group: usize,
+    /// How many types stand before it in its group.
+    pub position: usize,
+}
+
+/// Where each type stands. `AllocError` only where memory is refused.
+pub(crate) fn places_of(alloc: Global, list: &TypeList) -> Result<Vec<Place>, AllocError>
+    ensures { IfOk result (λ places. PlacesAre list.now places.items) }
+{
+    let mut places: Vec<Place> = Vec::new(alloc);
+    let groups = list.groups.as_slice();
+    for group in 0..groups.len() {
+        let types = groups[group].types.as_slice();
+        for position in 0..types.len() {
+            places.push(Place { group, position })?;
+        }
+    }
+    Ok(places)
+}
