@@ -1,0 +1,84 @@
+//! What stands round a place in a body (core specification 3.0, 3.1 Conventions, contexts).
+ghost use Rattle.std.specs.Prelude.{◌≡◌, [], ◌∷◌, Some, None, OnOk, option_map, slice_get};
+ghost use Rattle.gu_model.specs.Typing as typing;
+ghost use Rattle.gu_valid_code.specs.Scope.{left, parts_of};
+
+use gu_types::ValType;
+use std::alloc::{AllocError, Global};
+use std::marker::Model;
+
+/// The types that the labels take, the innermost last, those of the function's results and those of
+/// its locals.
+#[derive(Drop)]
+pub(crate) struct Scope<'a> {
+    labels: Vec<&'a [ValType]>,
+    results: &'a [ValType],
+    locals: Vec<ValType>,
+}
+
+impl<'a> Model for Scope<'a> {
+    ghost use Rattle.std.specs.Prelude.{map, reverse};
+    ghost use Rattle.gu_model.specs.TypingContext.{Around};
+
+    ghost Value = { Around };
+
+    ghost view = { λ scope. record { labels = map (λ label. label.now) (reverse scope.labels.items); results = scope.results.now; locals = scope.locals.items } };
+}
+
+/// The types before the last, and the last, or `None` where there are no types.
+pub(crate) fn split_last(types: &[ValType]) -> Option<(&[ValType], ValType)>
+    ensures { option_map parts_of result ≡ typing.split_last types.now }
+{
+    let (last, before) = types.split_last()?;
+    Some((before, *last))
+}
+
+impl<'a> Scope<'a> {
+    /// No labels yet, round a body of a function with these results and locals.
+    pub(crate) fn new(alloc: Global, results: &'a [ValType], locals: Vec<ValType>) -> Scope<'a>
+        ensures { result ≡ record { labels = []; results = results.now; locals = locals.items } }
+    {
+        Scope {
+            labels: Vec::new(alloc),
+            results,
+            locals,
+        }
+    }
+
+    /// The types that a label takes, counted outwards from the innermost one.
+    pub(crate) fn label(&self, index: u32) -> Option<&'a [ValType]>
+        ensures { option_map (λ label. label.now) result ≡ slice_get self.now.labels index }
+    {
+        let place = self.labels.len().checked_sub(index as usize + 1)?;
+        Some(self.labels[place])
+    }
+
+    /// The types of the function's results.
+    pub(crate) fn results(&self) -> &'a [ValType]
+        ensures { result.now ≡ self.now.results }
+    {
+        self.results
+    }
+
+    /// The type of a local.
+    pub(crate) fn local(&self, index: u32) -> Option<ValType>
+        ensures { result ≡ slice_get self.now.locals index }
+    {
+        self.locals.get(index as usize).copied()
+    }
+
+    /// Enters a block with a label. `AllocError` only where memory is refused.
+    pub(crate) fn enter(&mut self, label: &'a [ValType]) -> Result<(), AllocError>
+        ensures { OnOk result (self.new ≡ typing.inside self.old label.now) }
+    {
+        self.labels.push(label)?;
+        Ok(())
+    }
+
+    /// Leaves the innermost block.
+    pub(crate) fn leave(&mut self)
+        ensures { self.new ≡ left self.old }
+    {
+        self.labels.pop();
+    }
+}
