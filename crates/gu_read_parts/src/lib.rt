@@ -11,6 +11,8 @@ mod bytes;
 mod numbers;
 mod part;
 mod stop;
+#[cfg(test)]
+mod tests;
 mod values;
 
 pub use answer::{ReadErr, Which, refusal, refusal_ahead};
