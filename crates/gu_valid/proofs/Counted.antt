@@ -1,27 +1,19 @@
 -- How many things of a kind there are, and what a module's code is typed in.
-use Rattle.std.proofs.Common.{ℕ, zero, suc, ◌≡◌, ◌<◌, ◌≤◌, ◌+◌, ◌^◌, List, [], ◌∷◌, ◌++◌, Bool, true, false, cond, refl, ap, ◌∙◌, sym, map, length, count_by, slice_get, is_some, nat_lt, arith, Option, Some, None, length-append, zero-add}
-use Rattle.std.proofs.lemmas.Bool.{ltb-true}
+use Rattle.std.proofs.Common.{ℕ, ◌≡◌, ◌≤◌, ◌+◌, List, Bool, cond, refl, ap, ◌∙◌, sym, map, length, count_by, arith, length-append, zero-add}
 use Rattle.std.proofs.lemmas.List.{length-map}
 use Rattle.std.proofs.lemmas.List.Recursion.{is_count_by}
 use Rattle.std.proofs.lemmas.List.Sums.{count_by-le-length}
-use Rattle.gu_types.specs.declared.types.Comp.{Comp}
-use Rattle.gu_types.specs.declared.types.Comp.TheVariants as C
-use Rattle.gu_types.specs.declared.types.HeapType.{HeapType}
-use Rattle.gu_types.specs.declared.types.HeapType.TheVariants as H
 use Rattle.gu_types.specs.declared.types.RefType.{RefType}
-use Rattle.gu_types.specs.declared.types.SubType.{SubType}
 use Rattle.gu_types.specs.declared.types.TypeList.{TypeList}
 use Rattle.gu_types.specs.declared.types.ValType.{ValType}
-use Rattle.gu_types.specs.Depth.{types_of}
 use Rattle.gu_syntax.specs.declared.module.Desc.{Desc}
 use Rattle.gu_syntax.specs.declared.module.Desc.TheVariants as D
 use Rattle.gu_syntax.specs.declared.module.Import.{Import}
 use Rattle.gu_syntax.specs.declared.module.Module.{Module}
-use Rattle.gu_model.specs.Index.{imported, as_memory, is_memory, as_global, is_global, memories, defined_global, comp_as}
-use Rattle.gu_model.specs.TypingContext.{Context, top_of_comp, is_valid_heap}
+use Rattle.gu_model.specs.Index.{imported, as_memory, is_memory, as_global, is_global, memories, defined_global}
+use Rattle.gu_model.specs.TypingContext.{Context}
 use Rattle.gu_model.specs.Valid.{imported_globals}
 use Rattle.gu_model.specs.ValidContext.{context}
-use Rattle.gu_valid.specs.Kinds.{is_heap_among}
 
 length_imported : {X : Type 0} (p : Desc → Bool) (read : Desc → List X) → ((d : Desc) (n : ℕ) → length (read d) + n ≡ cond (p d) (1 + n) n) → (is : List Import) → length (imported read is) ≡ count_by (λ i. p i.desc) is
 length_imported p read one is =

@@ -1,8 +1,7 @@
 -- Which parts of a module hold.
-use Rattle.std.proofs.Common.{ℕ, zero, suc, ◌≡◌, ◌<◌, ◌≤◌, ◌+◌, List, [], ◌∷◌, refl, ap, ◌∙◌, sym, subst, take, length, get_or, slice_get, Option, Some, None, Bool, true, false, not, ◌&&◌, ◌||◌, nat_lt, arith}
+use Rattle.std.proofs.Common.{ℕ, ◌≡◌, ◌<◌, ◌+◌, List, refl, ap, ◌∙◌, sym, subst, length, get_or, slice_get, Option, Some, None, Bool, true, false, ◌&&◌, nat_lt, arith}
 use Rattle.std.proofs.lemmas.Option.{slice_get-get_or}
 use Rattle.std.proofs.lemmas.Bool.{ltb-true, ltb-false}
-use Rattle.gu_types.specs.declared.types.RefType.{RefType}
 use Rattle.gu_syntax.specs.declared.module.Elem.{Elem}
 use Rattle.gu_syntax.specs.declared.module.Func.{Func}
 use Rattle.gu_syntax.specs.declared.module.Global.{Global}

@@ -1,12 +1,11 @@
 -- What lists of functions mark, and which instructions mark and need nothing.
-use Rattle.std.proofs.Common.{ℕ, ◌≡◌, ◌≢◌, ◌+◌, ◌<◌, List, [], ◌∷◌, ◌++◌, Bool, true, false, slice_set, refl, ap, ◌∙◌, sym, length, drop, get_or, map, Bor}
+use Rattle.std.proofs.Common.{ℕ, ◌≡◌, ◌≢◌, ◌+◌, ◌<◌, List, [], ◌∷◌, ◌++◌, Bool, true, false, slice_set, refl, ap, ◌∙◌, sym, length, drop, get_or}
 use Rattle.std.proofs.lemmas.List.{drop_more}
 use Rattle.gu_syntax.specs.declared.instr.Body.{Body}
 use Rattle.gu_syntax.specs.declared.instr.Instr.{Instr}
 use Rattle.gu_syntax.specs.declared.instr.Instr.TheVariants as I
 use Rattle.gu_syntax.specs.declared.module.Module.{Module}
-use Rattle.gu_syntax.specs.Code.{Ins, leaf, ins_of, code_of}
-use Rattle.gu_syntax.proofs.Shapes.{ins_of-leaf}
+use Rattle.gu_syntax.specs.Code.{Ins, leaf, ins_of}
 use Rattle.gu_model.specs.ValidContext.{marked, named_by_ins, named_by_leaf, named_by_bodies, named_by_exports, named_by_elems, named_outside, constants, needs_count_leaf, needs_count_ins}
 
 pub marked_append : (is js : List ℕ) (flags : List Bool) → marked (is ++ js) flags ≡ marked js (marked is flags)

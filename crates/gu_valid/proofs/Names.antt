@@ -1,5 +1,5 @@
 -- Which names a set has, against the names of a list.
-use Rattle.std.proofs.Common.{ℕ, zero, suc, ◌≡◌, ◌≢◌, ◌<◌, ◌+◌, Bool, true, false, cond, ◌||◌, not, nat_lt, List, [], ◌∷◌, refl, ap, ◌∙◌, sym, take, length, get_or, slice_get, Some, Bor, subst, arith}
+use Rattle.std.proofs.Common.{ℕ, zero, suc, ◌≡◌, ◌≢◌, ◌<◌, ◌+◌, Bool, true, false, cond, ◌||◌, not, List, [], ◌∷◌, refl, ap, ◌∙◌, sym, take, length, get_or, slice_get, Some, Bor, subst, arith}
 use Rattle.std.specs.declared.cmp.Ordering.{Ordering}
 use Rattle.std.specs.Ordering.{is_eq, nat_cmp}
 use Rattle.std.specs.Cmp.Lexicographic.{slice_cmp, texts_ties, same_text, other_text}

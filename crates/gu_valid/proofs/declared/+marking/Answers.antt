@@ -1,4 +1,4 @@
-use Rattle.std.proofs.Common.{◌∙◌, refl, List, ℕ}
+use Rattle.std.proofs.Common.{◌∙◌, refl, List}
 use Rattle.gu_syntax.specs.Code.{code_of, ins_of}
 use Rattle.gu_syntax.specs.declared.instr.Instr.{Instr}
 use Rattle.gu_syntax.proofs.Shapes.{ins_of-leaf}

@@ -1,4 +1,4 @@
-use Rattle.std.proofs.Common.{◌≡◌, map, drop}
+use Rattle.std.proofs.Common.{◌≡◌, drop}
 use Rattle.gu_model.specs.ValidContext.{marked}
 use Rattle.gu_valid.proofs.declared.mark_all.Given as goal
 

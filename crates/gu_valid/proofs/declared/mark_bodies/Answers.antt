@@ -1,4 +1,4 @@
-use Rattle.std.proofs.Common.{◌∙◌, ap, refl, List, ℕ, map, Bor}
+use Rattle.std.proofs.Common.{◌∙◌, ap, refl, List, map, Bor}
 use Rattle.gu_syntax.specs.Code.{code_of}
 use Rattle.gu_syntax.specs.declared.instr.Body.{Body}
 use Rattle.gu_syntax.specs.declared.instr.Instr.{Instr}

@@ -1,4 +1,4 @@
-use Rattle.std.proofs.Common.{◌∙◌, refl, List, ℕ}
+use Rattle.std.proofs.Common.{◌∙◌, refl}
 use Rattle.gu_syntax.specs.declared.module.Elem.{Elem}
 use Rattle.gu_model.specs.ValidContext.{named_by_elems, named_by_items}
 use Rattle.gu_valid.proofs.Lists.{marked_step}

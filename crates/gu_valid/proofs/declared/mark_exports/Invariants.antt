@@ -1,4 +1,4 @@
-use Rattle.std.proofs.Common.{◌≡◌, map, drop}
+use Rattle.std.proofs.Common.{◌≡◌, drop}
 use Rattle.gu_model.specs.ValidContext.{marked, named_by_exports}
 use Rattle.gu_valid.proofs.declared.mark_exports.Given as goal
 

@@ -1,4 +1,4 @@
-use Rattle.std.proofs.Common.{◌≡◌, ◌++◌, map, drop}
+use Rattle.std.proofs.Common.{◌≡◌, ◌++◌, drop}
 use Rattle.gu_model.specs.Index.{imported, as_tag, tags}
 use Rattle.gu_valid.proofs.spaces.tags_of.Given as goal
 

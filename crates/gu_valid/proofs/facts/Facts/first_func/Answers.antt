@@ -1,4 +1,4 @@
-use Rattle.std.proofs.Common.{◌≡◌, slice_get, Some, length, ap, arith}
+use Rattle.std.proofs.Common.{◌≡◌, slice_get, Some}
 use Rattle.std.proofs.lemmas.Option.{slice_get_within}
 use Rattle.gu_model.specs.Valid.{FuncHolds}
 use Rattle.gu_valid.proofs.Holding.{at_place, each_more, func_holds, func_fails}

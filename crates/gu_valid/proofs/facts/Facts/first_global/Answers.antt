@@ -1,4 +1,4 @@
-use Rattle.std.proofs.Common.{◌≡◌, slice_get, Some, length, arith, ap, ◌∙◌, ◌+◌, ◌&&◌}
+use Rattle.std.proofs.Common.{◌≡◌, slice_get, Some, ap, ◌∙◌, ◌+◌, ◌&&◌}
 use Rattle.std.proofs.lemmas.Option.{slice_get_within}
 use Rattle.gu_model.specs.Valid.{GlobalHolds, is_constant_body}
 use Rattle.gu_model.specs.TypingContext.{is_valid_val}

@@ -1,4 +1,4 @@
-use Rattle.std.proofs.Common.{◌≡◌, slice_get, Some, length, ap, arith, get_or}
+use Rattle.std.proofs.Common.{◌≡◌, slice_get, Some, get_or}
 use Rattle.std.proofs.lemmas.Option.{slice_get_within}
 use Rattle.gu_model.specs.Valid.{TagHolds}
 use Rattle.gu_valid.proofs.Holding.{at_default, each_more, tag_holds, tag_fails}

@@ -1,5 +1,4 @@
-use Rattle.std.proofs.Common.{◌∙◌, ap, List, arith}
-use Rattle.gu_types.specs.declared.types.RecGroup.{RecGroup}
+use Rattle.std.proofs.Common.{◌∙◌, ap, arith}
 use Rattle.gu_types.specs.Depth.{types_in}
 use Rattle.gu_valid.proofs.Counted.{globals_are, few_globals}
 use Rattle.gu_valid.proofs.facts.Facts.new.Goals as goal
