@@ -18,7 +18,7 @@ pub record IsCounted (m : Module) : Type 0 where
   pub elems : length m.elems < 2 ^ 31
   pub segs : length m.segs < 2 ^ 31
 
--- what a refusal says of a module: which part is the first that fails, or nothing, where memory was refused
+-- what a refusal says of a module: which part is the first that fails, or nothing, where the work was not done
 abbrev pub Refuses : ValidErr → Module → Type 0
 Refuses (Invalid part) m = IsFirstFailure m part
 Refuses NoMemory m = Unit {0}

@@ -100,7 +100,8 @@ fn first_part(alloc: Global, m: &Module) -> Result<Option<Part>, AllocError>
 /// gone over once, in their order, and none is looked at behind the first that fails.
 ///
 /// `Invalid` with the first part that fails, exactly where the module is not valid. `NoMemory` only
-/// where memory is refused, or where a section has 2^31 entries or more.
+/// where memory is refused, where a section has 2^31 entries or more, or where there are 2^32 types
+/// or more.
 pub fn check_module(alloc: Global, m: &Module) -> Result<(), ValidErr>
     requires shaped { IsShaped m.now }
     requires shallow { (i : ℕ) → depth (types_of m.now.types) i ≤ 63 }
@@ -120,7 +121,8 @@ pub fn check_module(alloc: Global, m: &Module) -> Result<(), ValidErr>
 /// where it is not.
 ///
 /// `Invalid` with the first part that fails, exactly where the module is not valid. `NoMemory` only
-/// where memory is refused, or where a section has 2^31 entries or more.
+/// where memory is refused, where a section has 2^31 entries or more, or where there are 2^32 types
+/// or more.
 pub fn validate(alloc: Global, m: Module) -> Result<ValidModule, (Module, ValidErr)>
     requires shaped { IsShaped m }
     requires shallow { (i : ℕ) → depth (types_of m.types) i ≤ 63 }

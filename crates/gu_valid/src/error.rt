@@ -17,7 +17,8 @@ pub enum ValidErr {
         /// That part.
         part: Part,
     },
-    /// Memory was refused. It says nothing of the module.
+    /// Memory was refused, a section has 2^31 entries or more, or there are 2^32 types or more. It
+    /// says nothing of whether the module is valid.
     #[error("out of memory")]
     NoMemory,
 }
