@@ -1,5 +1,5 @@
 #!/usr/bin/env python3
-"""Times the program on modules of the first profile near the input limit.
+"""Times the program on modules near the input limit.
 
 Usage: bench/throughput.py [PROGRAM]   (default: crates/wasm_gufa_main/out/wasm_gufa_main)
 

@@ -1,13 +1,3 @@
-pub mod Bodies
+pub mod Answering
 pub mod Causes
-pub mod Codes
-pub mod CutStep
-pub mod Cutting
-pub mod Instrs
-pub mod Lengths
-pub mod Names
-pub mod Parts
-pub mod Signatures
-pub mod TypedCodes
-pub mod Vectors
-pub mod Whole
+pub mod Depths

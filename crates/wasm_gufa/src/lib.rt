@@ -2,16 +2,9 @@
 //! to a second sink, and a status.
 #![tactic(auto)]
 
-mod check;
-mod cut;
-mod lines;
-mod read;
-mod status;
 #[cfg(test)]
 mod tests;
 mod top;
-mod write;
 
-pub use lines::fault_line;
-pub use status::{Part, Status, Which};
+pub use gu_report::{Part, Status, Which, fault_line};
 pub use top::wasm_gufa;

@@ -20,6 +20,7 @@ fn answer(rt: &HostRuntime) -> Status {
     match arguments(rt) {
         Ok(arguments) => match words_of(rt.alloc(), &arguments) {
             Ok(words) => wasm_gufa(
+                rt,
                 rt.alloc(),
                 words.as_slice(),
                 &mut StdSource::new(rt.stdin()),

@@ -1,6 +1,6 @@
 use Rattle.std.proofs.Common.{arith}
-use Rattle.wasm_gufa.specs.declared.status.Status.TheVariants.{Done}
-use Rattle.wasm_gufa.proofs.Causes.{is_due}
+use Rattle.gu_report.specs.declared.status.Status.TheVariants.{Done}
+use Rattle.wasm_gufa.proofs.Answering.{is_due}
 use Rattle.wasm_gufa.proofs.top.wasm_gufa.Goals as goal
 
 pub returns-in-Ok-clause-due : goal.returns-in-Ok-clause-due

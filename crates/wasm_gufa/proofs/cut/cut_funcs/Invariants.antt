@@ -1,7 +1,0 @@
-use Rattle.std.proofs.Common.{map}
-use Rattle.gu_first.specs.Cut.{cut_func}
-use Rattle.wasm_gufa.proofs.CutStep.{Changed}
-use Rattle.wasm_gufa.proofs.cut.cut_funcs.Given as goal
-
-abbrev pub invariant-funcs : goal.invariant-funcs
-invariant-funcs l = Changed cut_func l.func-items l.func-index (map cut_func l.fn.funcs)

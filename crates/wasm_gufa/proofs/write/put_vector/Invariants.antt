@@ -1,6 +1,0 @@
-use Rattle.std.proofs.Common.{◌≡◌, ◌++◌, drop}
-use Rattle.gu_syntax.specs.Encoding.{encode_items, encode_vector}
-use Rattle.wasm_gufa.proofs.write.put_vector.Given as goal
-
-abbrev pub invariant-items : goal.invariant-items
-invariant-items g l = l.out.items ++ encode_items g.F.Form.text (drop l.item-index l.items) ≡ l.fn.out.items ++ encode_vector g.F.Form.text l.items
