@@ -181,7 +181,7 @@ pub same_name : (list : TypeList) (i j : ℕ) → SameType list i list j → nam
 unfolding SameType name
 same_name list i j s = ap concrete s
 
-same_back : (list : TypeList) (i j : ℕ) → SameType list i list j → SameType list j list i
+pub same_back : (list : TypeList) (i j : ℕ) → SameType list i list j → SameType list j list i
 unfolding SameType
 same_back list i j s = sym s
 
