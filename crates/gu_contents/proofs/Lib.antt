@@ -1,3 +1,4 @@
 pub mod Heaps
 pub mod Heights
 pub mod Common
+pub mod Cones
