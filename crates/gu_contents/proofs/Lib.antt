@@ -2,3 +2,4 @@ pub mod Heaps
 pub mod Heights
 pub mod Common
 pub mod Cones
+pub mod Coded

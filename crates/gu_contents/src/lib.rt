@@ -1,17 +1,22 @@
 //! What can arrive at a place of a program: the lattice of contents, over the types of a module.
 #![tactic(auto)]
 
+mod codes;
 mod content;
+pub mod exact;
 mod facts;
 mod joining;
+mod longs;
 mod meets;
 mod numbers;
 mod order;
 mod same;
 
+pub use codes::{code_of, content_of};
 pub use content::{Content, Core};
 pub use facts::{Facts, GlobalFact};
 pub use joining::join;
+pub use longs::Longs;
 pub use meets::{all, equal, filter, minus, test};
 pub use numbers::{extend, is_null, pack, rank};
 pub use order::le;
