@@ -3,3 +3,4 @@ pub mod Heights
 pub mod Common
 pub mod Cones
 pub mod Coded
+pub mod Listed
