@@ -11,6 +11,8 @@ mod meets;
 mod numbers;
 mod order;
 mod same;
+#[cfg(test)]
+mod tests;
 
 pub use codes::{code_of, content_of};
 pub use content::{Content, Core};
