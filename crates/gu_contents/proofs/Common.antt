@@ -146,9 +146,9 @@ same_one list (H.Idx i) (H.Abs l) p q e = absurd e
 same_one list (H.Idx i) (H.Idx j) p q e = let x = p j e in let y = q i (same_back list i j e) in ap H.Idx (omega arith)
 
 -- how far one heap type stands above another
-record Far (list : TypeList) (above below : HeapType) : Type 0 where
-  edges : ℕ
-  is : distance list above below ≡ Some edges
+pub record Far (list : TypeList) (above below : HeapType) : Type 0 where
+  pub edges : ℕ
+  pub is : distance list above below ≡ Some edges
 
 pub common_exact : CommonIsExact
 unfolding common
@@ -179,7 +179,7 @@ pub record Above (list : TypeList) (a b c : HeapType) : Type 0 where
   pub no_bottom : IsNoBottom c
   pub least : IsLeastIndex list c
 
-sub_far : (list : TypeList) → IndicesHold list → (a c : HeapType) → IsNoBottom a → IsSub list a c → Far list c a
+pub sub_far : (list : TypeList) → IndicesHold list → (a c : HeapType) → IsNoBottom a → IsSub list a c → Far list c a
 sub_far list hold a c n p = by_distance (distance list c a) refl
   where
     by_distance : (o : Option ℕ) → distance list c a ≡ o → Far list c a
