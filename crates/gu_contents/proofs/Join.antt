@@ -69,7 +69,7 @@ join_tested f Bottom d h k = absurd (h refl)
 join_tested f c Bottom h k = absurd (k refl)
 join_tested f _ _ h k = refl
 
-stands_no_bottom : (f : Facts) (c : Core) (a : HeapType) (i : ℕ) → StandsFor f c a i → c ≡ Bottom → ⊥
+pub stands_no_bottom : (f : Facts) (c : Core) (a : HeapType) (i : ℕ) → StandsFor f c a i → c ≡ Bottom → ⊥
 stands_no_bottom f c a i s e = let z : Bottom ≡ Cone a i = sym (ap (cone_of f) e) ∙ s.is in cc
 
 both_stand : (f : Facts) (c d : Core) (a : HeapType) (i : ℕ) (b : HeapType) (e : ℕ) → StandsFor f c a i → StandsFor f d b e → CoreJoins f c d (join_cores f c d)
@@ -186,7 +186,7 @@ common_least f c d o =
     let t = o.second.cone in
     subst (λ v. MatchOption v (HaveNoCommon f.types o.a o.b) (IsLeastCommon f.types o.a o.b)) o.found (common_exact f.types f.hold o.a o.b s.is_heap t.is_heap s.no_bottom)
 
-same_edges : (o : Option ℕ) (m n : ℕ) → o ≡ Some m → o ≡ Some n → m ≡ n
+pub same_edges : (o : Option ℕ) (m n : ℕ) → o ≡ Some m → o ≡ Some n → m ≡ n
 same_edges o m n h k = let z : Some m ≡ Some n = sym h ∙ k in cc
 
 nearest : (f : Facts) (c d u : Core) (o : Over f c d) → InBy f o.a o.i u → InBy f o.b o.e u → LiesIn f (cone_over f c d o) u

@@ -5,3 +5,5 @@ pub mod Lattice
 pub mod Order
 pub mod Ranks
 pub mod Join
+pub mod MonotoneMeets
+pub mod Monotone
