@@ -7,3 +7,4 @@ pub mod Ranks
 pub mod Join
 pub mod MonotoneMeets
 pub mod Monotone
+pub mod MonotoneAnswers

@@ -40,7 +40,7 @@ occurring false (Func g) h = refl
 occurring false (Global g) h = refl
 occurring false (Cone a i) h = refl
 
-below_bottom : (f : Facts) (c d : Core) → CoreBelow f c d → d ≡ Bottom → c ≡ Bottom
+pub below_bottom : (f : Facts) (c d : Core) → CoreBelow f c d → d ≡ Bottom → c ≡ Bottom
 below_bottom f c d (least e) h = e
 below_bottom f c d (same e) h = e ∙ h
 below_bottom f c d (lies l) h = let z : Bottom ≡ Cone l.above l.deep = sym h ∙ l.outer in cc
@@ -241,7 +241,7 @@ module _ (f : Facts) (to : RefType) (is_heap : IsHeapOf f.types to.heap) where
       let m = refs_rise f (r.null && not to.null) (r.null_above && not to.null) (core_minus f r.core to.heap) (core_minus f r.core_above to.heap) (both_nulls r.null r.null_above (not to.null) r.nulls) (core_minus_rises f to.heap is_heap r.core r.core_above x.1 y.1 r.cores) in
       subst (λ z. Below f z (minus f b to)) (sym p) (subst (Below f (refs_of (r.null && not to.null) (core_minus f r.core to.heap))) (sym q) m)
 
-below_empty : (f : Facts) (a b : Content) → Below f a b → b ≡ Empty → a ≡ Empty
+pub below_empty : (f : Facts) (a b : Content) → Below f a b → b ≡ Empty → a ≡ Empty
 below_empty f a b (nothing e) h = e
 below_empty f a b (everything e) h = cc
 below_empty f a b (equal e) h = e ∙ h
