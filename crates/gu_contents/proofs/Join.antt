@@ -287,7 +287,7 @@ pub record RefsOver (f : Facts) (n : Bool) (c : Core) (u : Content) : Type 0 whe
   pub nulls : (not n || null) ≡ true
   pub cores : CoreBelow f c core
 
-own_null : (n : Bool) → (not n || n) ≡ true
+pub own_null : (n : Bool) → (not n || n) ≡ true
 own_null true = refl
 own_null false = refl
 

@@ -8,3 +8,5 @@ pub mod Join
 pub mod MonotoneMeets
 pub mod Monotone
 pub mod MonotoneAnswers
+pub mod MonotoneEqual
+pub mod Belonging

@@ -28,7 +28,7 @@ pub data IsAnswer (a : Content) : Type 0 where
   no_answer : a ≡ Empty → IsAnswer a
   an_answer : is_number a ≡ true → IsAnswer a
 
-answers_below : (f : Facts) (a b : Content) → IsAnswer a → b ≡ Many → Below f a b
+pub answers_below : (f : Facts) (a b : Content) → IsAnswer a → b ≡ Many → Below f a b
 answers_below f a b (no_answer e) h = nothing e
 answers_below f a b (an_answer n) h = number n h
 
@@ -135,7 +135,7 @@ extend_rises f s sign a b (number n e) = number (extend_number s sign a n) (ap (
 extend_rises f s sign a b (refs r) = refs (record { null = r.null; core = r.core; null_above = r.null_above; core_above = r.core_above; first = ap (extend s sign) r.first; second = ap (extend s sign) r.second; nulls = r.nulls; cores = r.cores })
 
 -- some value can be in two cones, as far as their heads and depths tell
-data Touch (f : Facts) (a : HeapType) (i : ℕ) (b : HeapType) (e : ℕ) : Type 0 where
+pub data Touch (f : Facts) (a : HeapType) (i : ℕ) (b : HeapType) (e : ℕ) : Type 0 where
   over : (k : ℕ) → distance f.types a b ≡ Some k → k ≤ i → Touch f a i b e
   under : (k : ℕ) → distance f.types b a ≡ Some k → k ≤ e → Touch f a i b e
 
@@ -154,7 +154,7 @@ over_grows f a i b e a' i' b' e' k s t h l =
       | inr w ↦ over (k + s.edges - t.edges) (distance_between f.types f.hold b b' a' t.edges (k + s.edges) t.far far w) (omega arith)
     ]
 
-touch_grows : (f : Facts) (a : HeapType) (i : ℕ) (b : HeapType) (e : ℕ) (a' : HeapType) (i' : ℕ) (b' : HeapType) (e' : ℕ) → Steps f a i a' i' → Steps f b e b' e' → Touch f a i b e → Touch f a' i' b' e'
+pub touch_grows : (f : Facts) (a : HeapType) (i : ℕ) (b : HeapType) (e : ℕ) (a' : HeapType) (i' : ℕ) (b' : HeapType) (e' : ℕ) → Steps f a i a' i' → Steps f b e b' e' → Touch f a i b e → Touch f a' i' b' e'
 touch_grows f a i b e a' i' b' e' s t (over k h l) = over_grows f a i b e a' i' b' e' k s t h l
 touch_grows f a i b e a' i' b' e' s t (under k h l) = turned f b' e' a' i' (over_grows f b e a i b' e' a' i' k t s h l)
 
@@ -162,12 +162,12 @@ over_not_less : (i k : ℕ) → nat_lt i k ≡ false → k ≤ i
 over_not_less i k h = elim (cases_lt i k) as (λ _. k ≤ i) [ inl l ↦ absurd (true≢false (sym (lt-ltb i k l) ∙ h)) | inr l ↦ l ]
 
 -- two cones are not apart exactly where some value can be in both
-far_touch : (f : Facts) (a : HeapType) (i : ℕ) (b : HeapType) (e : ℕ) (o p : Option ℕ) → distance f.types a b ≡ o → distance f.types b a ≡ p → far_apart i o e p ≡ false → Touch f a i b e
+pub far_touch : (f : Facts) (a : HeapType) (i : ℕ) (b : HeapType) (e : ℕ) (o p : Option ℕ) → distance f.types a b ≡ o → distance f.types b a ≡ p → far_apart i o e p ≡ false → Touch f a i b e
 far_touch f a i b e (Some k) p h g n = over k h (over_not_less i k n)
 far_touch f a i b e None (Some k) h g n = under k g (over_not_less e k n)
 far_touch f a i b e None None h g n = absurd (true≢false n)
 
-touch_near : (f : Facts) (a : HeapType) (i : ℕ) (b : HeapType) (e : ℕ) (o p : Option ℕ) → distance f.types a b ≡ o → distance f.types b a ≡ p → Touch f a i b e → far_apart i o e p ≡ true → ⊥
+pub touch_near : (f : Facts) (a : HeapType) (i : ℕ) (b : HeapType) (e : ℕ) (o p : Option ℕ) → distance f.types a b ≡ o → distance f.types b a ≡ p → Touch f a i b e → far_apart i o e p ≡ true → ⊥
 touch_near f a i b e (Some k) p h g (over m x l) n = let z : Some k ≡ Some m = sym h ∙ x in let q : k ≡ m = cc in let y = ltb-true i k n in omega arith
 touch_near f a i b e None p h g (over m x l) n = some_none (distance f.types a b) m h x
 touch_near f a i b e (Some k) p h g (under m x l) n = let z = (distance_back f.types f.hold a b m k x h).1 in let y = ltb-true i k n in omega arith

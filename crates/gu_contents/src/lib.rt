@@ -3,6 +3,8 @@
 
 mod content;
 mod facts;
+mod laws;
 
 pub use content::{Content, Core};
 pub use facts::{Facts, GlobalFact};
+pub use laws::contents_are_a_lattice;
