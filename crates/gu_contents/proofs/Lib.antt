@@ -10,3 +10,4 @@ pub mod Monotone
 pub mod MonotoneAnswers
 pub mod MonotoneEqual
 pub mod Belonging
+pub mod Cones
