@@ -22,7 +22,7 @@ use Rattle.gu_contents.specs.Belongs.{IsCone, CoreBelongs, Occurs, Belongs, IsSh
 use Rattle.gu_contents.specs.Laws.{AnswersBelong}
 use Rattle.gu_contents.proofs.Heaps.{name}
 use Rattle.gu_contents.proofs.Heights.{height_few, height_named, least_name, least_heap, least_in_range, least_no_bottom}
-use Rattle.gu_contents.proofs.Join.{join_belongs}
+use Rattle.gu_contents.proofs.JoinLaw.{join_belongs}
 use Rattle.gu_contents.proofs.MonotoneMeets.{MeetIs, gone, inside, partly, meet_is, part_cone}
 use Rattle.gu_contents.proofs.Monotone.{RefsAre, none_left, some_left, refs_are}
 use Rattle.gu_contents.proofs.MonotoneAnswers.{IsAnswer}

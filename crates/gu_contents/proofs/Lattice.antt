@@ -20,7 +20,7 @@ use Rattle.gu_contents.specs.Contents.{least_of, bound, type_of_func, cone_of, e
 use Rattle.gu_contents.specs.Order.{reaches, cone_at_most, core_at_most, at_most, AtMost}
 use Rattle.gu_contents.specs.Belongs.{IsCone, IsFunc, IsBounded, CoreBelongs, Occurs, Belongs}
 use Rattle.gu_contents.proofs.Heaps.{distance_self}
-use Rattle.gu_contents.proofs.Heights.{least_in_range, least_heap}
+use Rattle.gu_contents.proofs.Cones.{func_cone}
 
 heap_sound : (a b : HeapType) → eq_heap a b ≡ true → a ≡ b
 heap_sound (H.Abs a) (H.Abs b) h = ap H.Abs (abs_tell.sound a b h)
@@ -72,17 +72,6 @@ pub record StandsFor (f : Facts) (c : Core) (head : HeapType) (depth : ℕ) : Ty
 pub data HasCone (f : Facts) (c : Core) : Type 0 where
   none : c ≡ Bottom → HasCone f c
   some : (head : HeapType) (depth : ℕ) → StandsFor f c head depth → HasCone f c
-
-func_cone : (f : Facts) (g : ℕ) → IsFunc f g → IsCone f (type_of_func f g) 0
-unfolding type_of_func
-func_cone f g h =
-    let i : ℕ = slice_index f.funcs g in
-    record {
-      is_heap = least_in_range f.types (H.Idx i) h.type_is;
-      no_bottom = refl;
-      least = least_heap f.types (H.Idx i);
-      capped = omega arith;
-    }
 
 pub has_cone : (f : Facts) (c : Core) → CoreBelongs f c → HasCone f c
 has_cone f Bottom h = none refl

@@ -2,9 +2,9 @@ pub mod Heaps
 pub mod Heights
 pub mod Common
 pub mod Lattice
-pub mod Order
+pub mod OrderLaw
 pub mod Ranks
-pub mod Join
+pub mod JoinLaw
 pub mod MonotoneMeets
 pub mod Monotone
 pub mod MonotoneAnswers

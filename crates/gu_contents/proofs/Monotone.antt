@@ -17,8 +17,9 @@ use Rattle.gu_contents.specs.Meets.{meet, filter, core_minus, minus, test_of, te
 use Rattle.gu_contents.specs.Belongs.{IsCone, CoreBelongs, Occurs, Belongs}
 use Rattle.gu_contents.proofs.Heaps.{distance_self, distance_adds}
 use Rattle.gu_contents.proofs.Heights.{height_adds}
+use Rattle.gu_contents.proofs.Cones.{is_head}
 use Rattle.gu_contents.proofs.Lattice.{core_sound, core_own, content_sound, content_own, StandsFor, LiesIn, CoreBelow, least, same, lies, is_number, RefsBelow, Below, nothing, everything, equal, number, refs, below, holds}
-use Rattle.gu_contents.proofs.Join.{head_of, stands_no_bottom}
+use Rattle.gu_contents.proofs.JoinLaw.{stands_no_bottom}
 use Rattle.gu_contents.proofs.MonotoneMeets.{Gone, a_bottom, no_core, outside, Inside, Partly, part_of, MeetIs, gone, inside, partly, meet_is, meet_rises, bottom_meet, least_above, part_cone, Steps, steps, some_none}
 
 -- references that are none are nothing; all others are references
@@ -72,7 +73,7 @@ one_null true false = refl
 in_whole : (f : Facts) (c : Core) (to : HeapType) (m : Core) → MeetIs f c to m → IsNoBottom to → IsHeapOf f.types to → CoreBelow f m (Cone (least_index f.types to) (height f.types to))
 in_whole f c to m (gone g e) n h = least e
 in_whole f c to m (inside p e) n h =
-    let l = height_adds f.types f.hold to p.a p.edges (head_of f p.a p.i p.stands.cone) p.is in
+    let l = height_adds f.types f.hold to p.a p.edges (is_head f p.a p.i p.stands.cone) p.is in
     let k = p.stands.cone.capped in
     lies (record { head = p.a; depth = p.i; inner = subst (λ z. StandsFor f z p.a p.i) (sym e) p.stands; above = least_index f.types to; deep = height f.types to; outer = refl; edges = p.edges; far = least_above f to p.a ∙ p.is; room = omega arith })
 in_whole f c to m (partly p e) n h =

@@ -19,7 +19,7 @@ use Rattle.gu_contents.specs.Numbers.{pack_to, pack, extend_literal, extend}
 use Rattle.gu_contents.specs.Belongs.{CoreBelongs, Occurs, Belongs}
 use Rattle.gu_contents.proofs.Heaps.{distance_self, distance_adds, distance_between, distance_back}
 use Rattle.gu_contents.proofs.Lattice.{core_sound, core_own, StandsFor, HasCone, none, some, has_cone, LiesIn, CoreBelow, least, same, lies, is_number, RefsBelow, Below, nothing, everything, equal, number, refs, below, holds}
-use Rattle.gu_contents.proofs.Join.{stands_no_bottom}
+use Rattle.gu_contents.proofs.JoinLaw.{stands_no_bottom}
 use Rattle.gu_contents.proofs.MonotoneMeets.{Steps, steps, some_none}
 use Rattle.gu_contents.proofs.Monotone.{below_bottom, below_empty}
 

@@ -14,7 +14,7 @@ use Rattle.gu_contents.specs.Meets.{far_apart, cones_apart, apart, equal_refs, e
 use Rattle.gu_contents.specs.Belongs.{CoreBelongs, Occurs, Belongs}
 use Rattle.gu_contents.proofs.Heaps.{distance_self}
 use Rattle.gu_contents.proofs.Lattice.{core_sound, core_own, StandsFor, HasCone, none, some, has_cone, LiesIn, CoreBelow, least, same, lies, is_number, RefsBelow, Below, nothing, everything, equal, number, refs}
-use Rattle.gu_contents.proofs.Join.{stands_no_bottom, own_null}
+use Rattle.gu_contents.proofs.JoinLaw.{stands_no_bottom, own_null}
 use Rattle.gu_contents.proofs.MonotoneMeets.{steps}
 use Rattle.gu_contents.proofs.Monotone.{below_bottom, below_empty}
 use Rattle.gu_contents.proofs.MonotoneAnswers.{IsAnswer, no_answer, an_answer, answers_below, Touch, over, touch_grows, far_touch, touch_near}

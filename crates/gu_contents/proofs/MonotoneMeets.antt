@@ -16,9 +16,10 @@ use Rattle.gu_contents.specs.Meets.{below_head, meet_cone, meet_heap, meet_under
 use Rattle.gu_contents.specs.Belongs.{IsCone, CoreBelongs}
 use Rattle.gu_contents.proofs.Heaps.{distance_self, distance_adds, distance_between, distance_zero, above_named, below_named}
 use Rattle.gu_contents.proofs.Heights.{height_adds, height_named, least_name, least_heap, least_in_range, least_no_bottom}
+use Rattle.gu_contents.proofs.Cones.{is_head, within_is}
 use Rattle.gu_contents.proofs.Lattice.{StandsFor, HasCone, none, some, has_cone, LiesIn, CoreBelow, least, same, lies}
-use Rattle.gu_contents.proofs.Order.{same_cone}
-use Rattle.gu_contents.proofs.Join.{head_of, stands_no_bottom, same_edges}
+use Rattle.gu_contents.proofs.OrderLaw.{same_cone}
+use Rattle.gu_contents.proofs.JoinLaw.{stands_no_bottom, same_edges}
 
 pub some_none : (o : Option ℕ) (k : ℕ) → o ≡ None → o ≡ Some k → ⊥
 some_none o k h e = let z : None ≡ Some k = sym h ∙ e in cc
@@ -125,23 +126,17 @@ func_is f to g s n (Some k) e =
 pub least_above : (f : Facts) (to a : HeapType) → distance f.types (least_index f.types to) a ≡ distance f.types to a
 least_above f to a = above_named f.types f.hold (least_index f.types to) to a (least_name f.types to)
 
-whole_is : (f : Facts) (to : HeapType) → IsNoBottom to → whole f to ≡ Cone (least_index f.types to) (height f.types to)
-whole_is f to n = ap (whole_under f to) n
-
-in_whole : (f : Facts) (to a : HeapType) (i : ℕ) → IsNoBottom to → cone_at_most f (Cone a i) (whole f to) ≡ reaches (distance f.types to a) i (height f.types to)
-in_whole f to a i n = ap (cone_at_most f (Cone a i)) (whole_is f to n) ∙ ap (λ o. reaches o i (height f.types to)) (least_above f to a)
-
 abbrev chosen : Facts → ℕ → HeapType → Bool → Core
 chosen f g to b = if b then Global g else meet_cone f.types (bound f g) to
 
 global_is : (f : Facts) (to : HeapType) (g : ℕ) (a : HeapType) (i : ℕ) → StandsFor f (Global g) a i → IsNoBottom to → (o : Option ℕ) → distance f.types to a ≡ o → MeetIs f (Global g) to (meet_heap f (Global g) to)
 global_is f to g a i s n None e =
-    let no : cone_at_most f (bound f g) (whole f to) ≡ false = ap (λ c. cone_at_most f c (whole f to)) s.is ∙ (in_whole f to a i n ∙ ap (λ o. reaches o i (height f.types to)) e) in
+    let no : cone_at_most f (bound f g) (whole f to) ≡ false = ap (λ c. cone_at_most f c (whole f to)) s.is ∙ (within_is f a to i n ∙ ap (λ o. reaches o i (height f.types to)) e) in
     subst (MeetIs f (Global g) to) (sym (ap (chosen f g to) no ∙ ap (λ c. meet_cone f.types c to) s.is)) (cone_meet f (Global g) to a i s n e)
 global_is f to g a i s n (Some k) e =
-    let l = height_adds f.types f.hold to a k (head_of f a i s.cone) e in
+    let l = height_adds f.types f.hold to a k (is_head f a i s.cone) e in
     let m = s.cone.capped in
-    let yes : cone_at_most f (bound f g) (whole f to) ≡ true = ap (λ c. cone_at_most f c (whole f to)) s.is ∙ (in_whole f to a i n ∙ (ap (λ o. reaches o i (height f.types to)) e ∙ le-leb (k + i) (height f.types to) (omega arith))) in
+    let yes : cone_at_most f (bound f g) (whole f to) ≡ true = ap (λ c. cone_at_most f c (whole f to)) s.is ∙ (within_is f a to i n ∙ (ap (λ o. reaches o i (height f.types to)) e ∙ le-leb (k + i) (height f.types to) (omega arith))) in
     inside (record { no_bottom = n; a = a; i = i; stands = s; edges = k; is = e }) (ap (chosen f g to) yes)
 
 heap_is : (f : Facts) (c : Core) (to : HeapType) → CoreBelongs f c → IsNoBottom to → HasCone f c → MeetIs f c to (meet_heap f c to)
@@ -208,7 +203,7 @@ module _ (f : Facts) (to : HeapType) where
         let w = between p.a p.i q.a q.i p.edges s p.is q.missed in
         let v = same_edges (distance f.types q.a to) q.edges w.edges q.is w.is in
         let u = w.apart in
-        let l = height_adds f.types f.hold to p.a p.edges (head_of f p.a p.i p.stands.cone) p.is in
+        let l = height_adds f.types f.hold to p.a p.edges (is_head f p.a p.i p.stands.cone) p.is in
         let k = p.stands.cone.capped in
         record {
           head = p.a;

@@ -4,8 +4,8 @@ use Rattle.gu_contents.specs.Laws.{OperationsAreMonotone, ContentsAreALattice}
 use Rattle.gu_contents.specs.Meets.{filter, minus, test, is_null, equal}
 use Rattle.gu_contents.specs.Numbers.{pack, extend}
 use Rattle.gu_contents.proofs.Lattice.{below, holds}
-use Rattle.gu_contents.proofs.Order.{is_order}
-use Rattle.gu_contents.proofs.Join.{join_is_least}
+use Rattle.gu_contents.proofs.OrderLaw.{is_order}
+use Rattle.gu_contents.proofs.JoinLaw.{join_is_least}
 use Rattle.gu_contents.proofs.Ranks.{ranks_rise}
 use Rattle.gu_contents.proofs.Monotone.{filter_rises, minus_rises, test_rises}
 use Rattle.gu_contents.proofs.MonotoneAnswers.{null_rises, pack_rises, extend_rises}

@@ -16,13 +16,11 @@ use Rattle.gu_contents.specs.Join.{common, edges, cone_under, join_cones, join_c
 use Rattle.gu_contents.specs.Belongs.{IsCone, CoreBelongs, Occurs, Belongs}
 use Rattle.gu_contents.specs.Laws.{JoinIsLeast}
 use Rattle.gu_contents.proofs.Heaps.{distance_adds, distance_self, sub_distance}
-use Rattle.gu_contents.proofs.Heights.{IsHead, height_adds}
+use Rattle.gu_contents.proofs.Heights.{height_adds}
 use Rattle.gu_contents.proofs.Common.{Far, sub_far, Above, common_exact, common_above}
+use Rattle.gu_contents.proofs.Cones.{is_head}
 use Rattle.gu_contents.proofs.Lattice.{core_sound, core_own, content_sound, content_own, StandsFor, HasCone, none, some, has_cone, LiesIn, CoreBelow, least, same, lies, is_number, RefsBelow, Below, nothing, everything, equal, number, refs, below, holds}
-use Rattle.gu_contents.proofs.Order.{same_cone}
-
-pub head_of : (f : Facts) (a : HeapType) (d : ℕ) → IsCone f a d → IsHead f.types a
-head_of f a d c = record { is_heap = c.is_heap; no_bottom = c.no_bottom }
+use Rattle.gu_contents.proofs.OrderLaw.{same_cone}
 
 sub_of : (list : TypeList) → IndicesHold list → (a c : HeapType) (k : ℕ) → IsNoBottom a → distance list c a ≡ Some k → IsSub list a c
 sub_of list hold a c k n e = is_sub_sound list hold a c (sub_distance list hold a c n ∙ ap is_some e)
@@ -106,24 +104,24 @@ core_joins f c d i j = by_cones (has_cone f c i) (has_cone f d j)
 -- the cone over two cores is one of the module's types, and they lie in it
 over_cone : (f : Facts) (c d : Core) (o : Over f c d) → IsCone f o.head (max (edges f.types o.head o.a + o.i) (edges f.types o.head o.b + o.e))
 over_cone f c d o =
-    let w = common_above f.types f.hold o.a o.b o.head (head_of f o.a o.i o.first.cone) (head_of f o.b o.e o.second.cone) o.found in
+    let w = common_above f.types f.hold o.a o.b o.head (is_head f o.a o.i o.first.cone) (is_head f o.b o.e o.second.cone) o.found in
     let x : edges f.types o.head o.a ≡ w.first = ap (λ v. unwrap_or v 0) w.first_is in
     let y : edges f.types o.head o.b ≡ w.second = ap (λ v. unwrap_or v 0) w.second_is in
-    let p = height_adds f.types f.hold o.head o.a w.first (head_of f o.a o.i o.first.cone) w.first_is in
-    let q = height_adds f.types f.hold o.head o.b w.second (head_of f o.b o.e o.second.cone) w.second_is in
+    let p = height_adds f.types f.hold o.head o.a w.first (is_head f o.a o.i o.first.cone) w.first_is in
+    let q = height_adds f.types f.hold o.head o.b w.second (is_head f o.b o.e o.second.cone) w.second_is in
     let m = o.first.cone.capped in
     let n = o.second.cone.capped in
     record { is_heap = w.in_range; no_bottom = w.no_bottom; least = w.least; capped = omega arith }
 
 first_in : (f : Facts) (c d : Core) (o : Over f c d) → LiesIn f c (cone_over f c d o)
 first_in f c d o =
-    let w = common_above f.types f.hold o.a o.b o.head (head_of f o.a o.i o.first.cone) (head_of f o.b o.e o.second.cone) o.found in
+    let w = common_above f.types f.hold o.a o.b o.head (is_head f o.a o.i o.first.cone) (is_head f o.b o.e o.second.cone) o.found in
     let x : edges f.types o.head o.a ≡ w.first = ap (λ v. unwrap_or v 0) w.first_is in
     record { head = o.a; depth = o.i; inner = o.first; above = o.head; deep = max (edges f.types o.head o.a + o.i) (edges f.types o.head o.b + o.e); outer = refl; edges = w.first; far = w.first_is; room = omega arith }
 
 second_in : (f : Facts) (c d : Core) (o : Over f c d) → LiesIn f d (cone_over f c d o)
 second_in f c d o =
-    let w = common_above f.types f.hold o.a o.b o.head (head_of f o.a o.i o.first.cone) (head_of f o.b o.e o.second.cone) o.found in
+    let w = common_above f.types f.hold o.a o.b o.head (is_head f o.a o.i o.first.cone) (is_head f o.b o.e o.second.cone) o.found in
     let y : edges f.types o.head o.b ≡ w.second = ap (λ v. unwrap_or v 0) w.second_is in
     record { head = o.b; depth = o.e; inner = o.second; above = o.head; deep = max (edges f.types o.head o.a + o.i) (edges f.types o.head o.b + o.e); outer = refl; edges = w.second; far = w.second_is; room = omega arith }
 
@@ -198,7 +196,7 @@ nearest f c d u o l m =
     let t = o.second.cone in
     let far : distance f.types l.above o.b ≡ Some m.edges = ap (λ x. distance f.types x o.b) (sym p) ∙ m.far in
     let x = (common_least f c d o).least l.above (sub_of f.types f.hold o.a l.above l.edges s.no_bottom l.far) (sub_of f.types f.hold o.b l.above m.edges t.no_bottom far) in
-    let w = common_above f.types f.hold o.a o.b o.head (head_of f o.a o.i s) (head_of f o.b o.e t) o.found in
+    let w = common_above f.types f.hold o.a o.b o.head (is_head f o.a o.i s) (is_head f o.b o.e t) o.found in
     let z = sub_far f.types f.hold o.head l.above w.no_bottom x in
     let one = same_edges (distance f.types l.above o.a) l.edges (w.first + z.edges) l.far (distance_adds f.types f.hold o.a o.head l.above w.first z.edges w.first_is z.is) in
     let two = same_edges (distance f.types l.above o.b) m.edges (w.second + z.edges) far (distance_adds f.types f.hold o.b o.head l.above w.second z.edges w.second_is z.is) in
