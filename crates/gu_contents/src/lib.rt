@@ -3,10 +3,9 @@
 
 mod codes;
 mod content;
-pub mod exact;
 mod facts;
 mod joining;
-mod laws;
+pub mod laws;
 mod longs;
 mod meets;
 mod numbers;
@@ -19,7 +18,6 @@ pub use codes::{code_of, content_of};
 pub use content::{Content, Core};
 pub use facts::{Facts, GlobalFact};
 pub use joining::join;
-pub use laws::contents_are_a_lattice;
 pub use longs::Longs;
 pub use meets::{all, equal, filter, minus, test};
 pub use numbers::{extend, is_null, pack, rank};
