@@ -11,7 +11,9 @@ use std::process::Abort;
 use std::test::Fail;
 
 const A: u32 = 0;
+
 const B: u32 = 1;
+
 const C: u32 = 2;
 
 /// An empty structure in a group of its own, which may declare supertypes.
@@ -130,7 +132,11 @@ fn tests_answer_no_outside_a_cone(rt: HostRuntime) -> Result<(), Fail> {
 fn numbers_are_packed_and_extended(rt: HostRuntime) -> Result<(), Fail> {
     let f = facts(rt.alloc())?;
     let null = Content::Ref(true, Core::Bottom);
-    expect(&rt, join(&f, Content::I32(1), Content::I32(2)), Content::Many);
+    expect(
+        &rt,
+        join(&f, Content::I32(1), Content::I32(2)),
+        Content::Many,
+    );
     expect(&rt, join(&f, Content::I32(1), null), Content::Top);
     expect(&rt, pack(Storage::I8, Content::I32(300)), Content::I32(44));
     expect(
