@@ -1,0 +1,10 @@
+pub mod Contents
+pub mod Order
+pub mod Join
+pub mod Whole
+pub mod Meets
+pub mod Numbers
+pub mod Rank
+pub mod Belongs
+pub mod Codes
+pub mod Laws
