@@ -3,7 +3,6 @@
 ghost use Rattle.std.specs.Prelude.{◌≡◌, [], ◌∷◌, map, replicate, Some, OnOk, IfOk};
 ghost use Rattle.gu_model.specs.TypingShape as typing;
 ghost use Rattle.gu_model.specs.TypingReferences as fields;
-ghost use Rattle.gu_valid_code.specs.Env.{IsInterned};
 ghost use Rattle.gu_valid_code.specs.Rows.{few_of, below_of, row_of, follows};
 ghost use Rattle.gu_valid_code.specs.State.{Did};
 
@@ -17,8 +16,7 @@ use std::alloc::AllocError;
 impl State {
     /// Takes a few operands, the last of which is on top. Whether there are such.
     pub(crate) fn pop_few(&mut self, env: &Env<'_>, wants: Few) -> bool
-        requires { IsInterned env.now }
-        ensures { Did result (typing.pops env.now.list.now (few_of wants) self.old) self.new }
+        ensures { Did result (typing.pops env.now.types.now (few_of wants) self.old) self.new }
     {
         match wants {
             Few::Zero => true,
@@ -40,8 +38,7 @@ impl State {
 
     /// Takes the values of fields in order, the last of which is on top. Whether there are such.
     fn pop_fields(&mut self, env: &Env<'_>, wants: &[FieldType]) -> bool
-        requires { IsInterned env.now }
-        ensures { Did result (typing.pops env.now.list.now (map fields.field_value wants.now) self.old) self.new }
+        ensures { Did result (typing.pops env.now.types.now (map fields.field_value wants.now) self.old) self.new }
     {
         let mut left = wants;
         'wants: while let Some((last, before)) = left.split_last() {
@@ -56,8 +53,7 @@ impl State {
     /// Takes so many operands of a type. Whether there are such. It takes no longer than there are
     /// operands.
     fn pop_copies(&mut self, env: &Env<'_>, want: ValType, count: u32) -> bool
-        requires { IsInterned env.now }
-        ensures { Did result (typing.pops env.now.list.now (replicate count want) self.old) self.new }
+        ensures { Did result (typing.pops env.now.types.now (replicate count want) self.old) self.new }
     {
         let mut left = count;
         'copies: while left > 0 {
@@ -74,8 +70,7 @@ impl State {
 
     /// Takes the lower operands of a row. Whether there are such.
     fn pop_below(&mut self, env: &Env<'_>, wants: Below<'_>) -> bool
-        requires { IsInterned env.now }
-        ensures { Did result (typing.pops env.now.list.now (below_of wants.entry) self.old) self.new }
+        ensures { Did result (typing.pops env.now.types.now (below_of wants.entry) self.old) self.new }
     {
         match wants {
             Below::Nothing => true,
@@ -106,8 +101,7 @@ impl State {
     /// Does what a row says. Whether its operands are there. `AllocError` only where memory is
     /// refused.
     pub(crate) fn apply(&mut self, env: &Env<'_>, row: Row<'_>) -> Result<bool, AllocError>
-        requires { IsInterned env.now }
-        ensures { IfOk result (λ typed. Did typed (typing.type_row env.now.list.now (Some (row_of row.entry)) self.old) self.new) }
+        ensures { IfOk result (λ typed. Did typed (typing.type_row env.now.types.now (Some (row_of row.entry)) self.old) self.new) }
     {
         if !self.pop_few(env, row.top) || !self.pop_below(env, row.below) {
             return Ok(false);

@@ -2,9 +2,9 @@
 ghost use Rattle.std.specs.Prelude.{◌≡◌, [], ◌∷◌, ◌++◌, ◌^◌, replicate, OnOk, IfOk};
 ghost use Rattle.std.specs.List.{list_all};
 ghost use Rattle.gu_model.specs.Typing as typing;
-ghost use Rattle.gu_valid_code.specs.Env.{IsInterned, context_of};
+ghost use Rattle.gu_valid_code.specs.Env.{context_of};
 
-use crate::env::{Env, function_at};
+use crate::env::Env;
 use crate::scope::Scope;
 use crate::state::State;
 use crate::walk::check_block;
@@ -64,16 +64,15 @@ fn joined(
 
 /// Whether a function's type index names a function type, the types of its locals are valid, and its
 /// body is typed (core specification 3.0, 3.5 Modules, functions, by the algorithm of the appendix,
-/// Validation Algorithm). The interned types of the environment are those of its list.
+/// Validation Algorithm).
 ///
 /// `NoMemory` only where memory is refused. The operands and the locals take memory in proportion to
 /// their greatest number, and no list is copied at a block or a branch; the code is gone over by
 /// recursion on the blocks that are open in one another.
 pub fn check_code<'a>(alloc: Global, env: &Env<'a>, f: &'a Func) -> Result<bool, NoMemory>
-    requires interned { IsInterned env.now }
     ensures typed { IfOk result (λ typed. typed ≡ typing.is_typed_func (context_of env.now) f.now) }
 {
-    let Some(signature) = function_at(env.list, f.ty) else {
+    let Some(signature) = env.function_at(f.ty) else {
         return Ok(false);
     };
     let runs = f.locals.as_slice();

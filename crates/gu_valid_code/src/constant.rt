@@ -4,7 +4,7 @@ ghost use Rattle.std.specs.Prelude.{◌≡◌, IfOk};
 ghost use Rattle.gu_syntax.specs.Code.{code_of, ins_of};
 ghost use Rattle.gu_model.specs.ValidConstants.{is_constant_ins, is_constant_of, is_immutable, is_constant_operator, with_globals};
 ghost use Rattle.std.specs.Prelude.{slice_get, take};
-ghost use Rattle.gu_valid_code.specs.Env.{IsInterned, context_of};
+ghost use Rattle.gu_valid_code.specs.Env.{context_of};
 
 use crate::env::Env;
 use crate::leaf::type_leaf;
@@ -66,7 +66,6 @@ pub fn check_constant(
     ty: ValType,
     body: &Body,
 ) -> Result<bool, AllocError>
-    requires { IsInterned env.now }
     ensures { IfOk result (λ typed. typed ≡ is_constant_of (with_globals globals (context_of env.now)) ty (code_of body.now.code)) }
 {
     let scope = Scope::new(alloc, &[], Vec::new(alloc));

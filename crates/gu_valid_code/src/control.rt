@@ -4,10 +4,10 @@ ghost use Rattle.std.specs.Prelude.{◌≡◌, [], ◌∷◌, Some, option_map};
 ghost use Rattle.gu_model.specs.TypingContext as around;
 ghost use Rattle.gu_model.specs.TypingRows.{leaves};
 ghost use Rattle.gu_model.specs.Typing as typing;
-ghost use Rattle.gu_valid_code.specs.Env.{IsInterned, context_of, function_of};
+ghost use Rattle.gu_valid_code.specs.Env.{context_of, function_of};
 ghost use Rattle.gu_valid_code.specs.Rows.{few_of, below_of, behind, row_of};
 
-use crate::env::{Env, Signature, function_at};
+use crate::env::{Env, Signature};
 use crate::numbers::plain_row;
 use crate::references::{abs_or_null, idx_or_null};
 use crate::row::{Below, Few, Row, Then, plain};
@@ -39,8 +39,7 @@ fn minus(a: RefType, b: RefType) -> RefType
 
 /// Whether lists of types are equally long, and each type of the first is below its partner.
 pub(crate) fn matches(env: &Env<'_>, below: &[ValType], above: &[ValType]) -> bool
-    requires { IsInterned env.now }
-    ensures { result ≡ around.matches env.now.list.now below.now above.now }
+    ensures { result ≡ around.matches env.now.types.now below.now above.now }
 {
     let mut left = below;
     let mut wants = above;
@@ -77,7 +76,6 @@ fn tail_calls<'a>(
     signature: Signature<'a>,
     callee: Few,
 ) -> Option<Row<'a>>
-    requires { IsInterned env.now }
     ensures { option_map row_of result ≡ typing.tail_calls (context_of env.now) scope.now (few_of callee) (function_of signature.entry) }
 {
     if matches(env, signature.results, scope.results()) {
@@ -89,12 +87,11 @@ fn tail_calls<'a>(
 
 /// The type of a function that an entry of a table is called as.
 fn indirect<'a>(env: &Env<'a>, ty: u32, table: u32) -> Option<Signature<'a>>
-    requires { IsInterned env.now }
     ensures { option_map function_of result ≡ typing.indirect (context_of env.now) ty table }
 {
     let entries = env.table(table)?;
     if env.is_sub_val(Ref(entries), abs_or_null(Abs::AnyFunc)) {
-        function_at(env.list, ty)
+        env.function_at(ty)
     } else {
         None
     }
@@ -108,7 +105,6 @@ fn casts<'a>(
     taken: RefType,
     left: RefType,
 ) -> Option<Row<'a>>
-    requires { IsInterned env.now }
     ensures { option_map row_of result ≡ typing.casts_to (context_of env.now) (option_map (λ ts. ts.now) label.entry) types.0 types.1 taken left }
 {
     let (from, to) = types;
@@ -138,7 +134,6 @@ fn select_of<'a>(env: &Env<'a>, types: &[ValType]) -> Option<Row<'a>>
 
 /// The row of an instruction that rests on labels or functions, or of one that rests on none.
 pub(crate) fn control_row<'a>(env: &Env<'a>, scope: &Scope<'a>, instr: &Instr) -> Option<Row<'a>>
-    requires { IsInterned env.now }
     ensures { option_map row_of result ≡ typing.control_row (context_of env.now) scope.now instr.now }
 {
     match instr {
@@ -181,7 +176,6 @@ pub(crate) fn control_row<'a>(env: &Env<'a>, scope: &Scope<'a>, instr: &Instr) -
 
 /// The row of a call, or of an instruction that rests on no labels and no functions.
 fn call_row<'a>(env: &Env<'a>, scope: &Scope<'a>, instr: &Instr) -> Option<Row<'a>>
-    requires { IsInterned env.now }
     ensures { option_map row_of result ≡ typing.call_row (context_of env.now) scope.now instr.now }
 {
     match instr {
@@ -189,16 +183,14 @@ fn call_row<'a>(env: &Env<'a>, scope: &Scope<'a>, instr: &Instr) -> Option<Row<'
         Instr::CallIndirect(ty, table) => {
             Some(calls(indirect(env, *ty, *table)?, Few::One(I32)))
         }
-        Instr::CallRef(ty) => {
-            Some(calls(function_at(env.list, *ty)?, Few::One(idx_or_null(*ty))))
-        }
+        Instr::CallRef(ty) => { Some(calls(env.function_at(*ty)?, Few::One(idx_or_null(*ty)))) }
         Instr::ReturnCall(func) => tail_calls(env, scope, env.func(*func)?, Few::Zero),
         Instr::ReturnCallIndirect(ty, table) => {
             tail_calls(env, scope, indirect(env, *ty, *table)?, Few::One(I32))
         }
         Instr::ReturnCallRef(ty) => {
             let callee = Few::One(idx_or_null(*ty));
-            tail_calls(env, scope, function_at(env.list, *ty)?, callee)
+            tail_calls(env, scope, env.function_at(*ty)?, callee)
         }
         _ => plain_row(env, instr),
     }

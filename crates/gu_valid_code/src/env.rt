@@ -5,18 +5,16 @@ ghost use Rattle.gu_rec.specs.Sub.{is_sub_ref, is_sub_val};
 ghost use Rattle.gu_model.specs.Index.{FuncType, func_type, func_type_in, struct_type, array_type};
 ghost use Rattle.gu_model.specs.TypingContext as around;
 ghost use Rattle.gu_model.specs.TypingContext.{is_valid_heap};
-ghost use Rattle.gu_valid_code.specs.Env.{IsInterned, function_of, label_of};
+ghost use Rattle.gu_valid_code.specs.Env.{function_of, label_of};
 
 use gu_rec::Types;
-use gu_types::{Abs, Comp, FieldType, HeapType, List, RefType, SubType, TypeList, ValType};
+use gu_types::{Abs, Comp, FieldType, HeapType, List, RefType, SubType, ValType};
 
 /// The types of what a module's indices name (core specification 3.0, 3.1 Conventions, contexts).
 /// Each list counts the imported things first.
 #[derive(Drop)]
 pub struct Env<'a> {
     /// The types of the module.
-    pub list: &'a TypeList,
-    /// The same types, interned.
     pub types: &'a Types,
     /// The functions, by the indices of their types.
     pub funcs: List<u32>,
@@ -54,54 +52,6 @@ impl<'a> Signature<'a> {
     }
 }
 
-/// The type with an index.
-fn type_at(list: &TypeList, index: u32) -> Option<&SubType>
-    ensures { option_map (λ ty. ty.now) result ≡ slice_get (types_of list.now) index }
-{
-    let mut left = index as usize;
-    for group in list.groups.as_slice() {
-        let types = group.types.as_slice();
-        if left < types.len() {
-            return Some(&types[left]);
-        }
-        left -= types.len();
-    }
-    None
-}
-
-/// The function type with an index, where it is one.
-pub(crate) fn function_at(list: &TypeList, index: u32) -> Option<Signature<'_>>
-    ensures { option_map function_of result ≡ func_type list.now index }
-{
-    match &type_at(list, index)?.comp {
-        Comp::Func { params, results } => Some(Signature {
-            params: params.as_slice(),
-            results: results.as_slice(),
-        }),
-        Comp::Struct(_) | Comp::Array(_) => None,
-    }
-}
-
-/// The fields of the structure type with an index, where it is one.
-pub(crate) fn fields_at(list: &TypeList, index: u32) -> Option<&[FieldType]>
-    ensures { option_map (λ fields. fields.now) result ≡ struct_type list.now index }
-{
-    match &type_at(list, index)?.comp {
-        Comp::Struct(fields) => Some(fields.as_slice()),
-        Comp::Func { .. } | Comp::Array(_) => None,
-    }
-}
-
-/// The elements of the array type with an index, where it is one.
-pub(crate) fn elements_at(list: &TypeList, index: u32) -> Option<FieldType>
-    ensures { result ≡ array_type list.now index }
-{
-    match &type_at(list, index)?.comp {
-        Comp::Array(field) => Some(*field),
-        Comp::Func { .. } | Comp::Struct(_) => None,
-    }
-}
-
 /// The top of the tree that an abstract heap type belongs to.
 fn top_of_abs(abs: Abs) -> Abs
     ensures { result ≡ around.top_of_abs abs }
@@ -115,6 +65,46 @@ fn top_of_abs(abs: Abs) -> Abs
 }
 
 impl<'a> Env<'a> {
+    /// The type with an index, in constant time.
+    fn type_at(&self, index: u32) -> Option<&'a SubType>
+        ensures { option_map (λ ty. ty.now) result ≡ slice_get (types_of self.now.types.now) index }
+    {
+        self.types.get(index)
+    }
+
+    /// The function type with an index, where it is one.
+    pub(crate) fn function_at(&self, index: u32) -> Option<Signature<'a>>
+        ensures { option_map function_of result ≡ func_type self.now.types.now index }
+    {
+        match &self.type_at(index)?.comp {
+            Comp::Func { params, results } => Some(Signature {
+                params: params.as_slice(),
+                results: results.as_slice(),
+            }),
+            Comp::Struct(_) | Comp::Array(_) => None,
+        }
+    }
+
+    /// The fields of the structure type with an index, where it is one.
+    pub(crate) fn fields_at(&self, index: u32) -> Option<&'a [FieldType]>
+        ensures { option_map (λ fields. fields.now) result ≡ struct_type self.now.types.now index }
+    {
+        match &self.type_at(index)?.comp {
+            Comp::Struct(fields) => Some(fields.as_slice()),
+            Comp::Func { .. } | Comp::Array(_) => None,
+        }
+    }
+
+    /// The elements of the array type with an index, where it is one.
+    pub(crate) fn elements_at(&self, index: u32) -> Option<FieldType>
+        ensures { result ≡ array_type self.now.types.now index }
+    {
+        match &self.type_at(index)?.comp {
+            Comp::Array(field) => Some(*field),
+            Comp::Func { .. } | Comp::Struct(_) => None,
+        }
+    }
+
     /// The type of the entries of the table with an index.
     pub(crate) fn table(&self, index: u32) -> Option<RefType>
         ensures { result ≡ slice_get self.now.tables index }
@@ -139,25 +129,25 @@ impl<'a> Env<'a> {
 
     /// The type of the function with an index.
     pub(crate) fn func(&self, index: u32) -> Option<Signature<'a>>
-        ensures { option_map function_of result ≡ func_type_in self.now.list.now (slice_get self.now.funcs index) }
+        ensures { option_map function_of result ≡ func_type_in self.now.types.now (slice_get self.now.funcs index) }
     {
-        function_at(self.list, *self.funcs.as_slice().get(index as usize)?)
+        self.function_at(*self.funcs.as_slice().get(index as usize)?)
     }
 
     /// The type of the tag with an index.
     pub(crate) fn tag(&self, index: u32) -> Option<Signature<'a>>
-        ensures { option_map function_of result ≡ func_type_in self.now.list.now (slice_get self.now.tags index) }
+        ensures { option_map function_of result ≡ func_type_in self.now.types.now (slice_get self.now.tags index) }
     {
-        function_at(self.list, *self.tags.as_slice().get(index as usize)?)
+        self.function_at(*self.tags.as_slice().get(index as usize)?)
     }
 
     /// The top of the tree that a heap type belongs to, or `None` where it is an index of no type.
     pub(crate) fn top_of(&self, heap: HeapType) -> Option<Abs>
-        ensures { result ≡ around.top_of self.now.list.now heap }
+        ensures { result ≡ around.top_of self.now.types.now heap }
     {
         match heap {
             HeapType::Abs(abs) => Some(top_of_abs(abs)),
-            HeapType::Idx(index) => match &type_at(self.list, index)?.comp {
+            HeapType::Idx(index) => match &self.type_at(index)?.comp {
                 Comp::Func { .. } => Some(Abs::AnyFunc),
                 Comp::Struct(_) | Comp::Array(_) => Some(Abs::Any),
             },
@@ -166,14 +156,14 @@ impl<'a> Env<'a> {
 
     /// Whether a heap type is valid: it is no index of no type.
     pub(crate) fn is_valid_heap(&self, heap: HeapType) -> bool
-        ensures { result ≡ around.is_valid_heap self.now.list.now heap }
+        ensures { result ≡ around.is_valid_heap self.now.types.now heap }
     {
         self.top_of(heap).is_some()
     }
 
     /// Whether a value type is valid.
     pub(crate) fn is_valid_val(&self, ty: ValType) -> bool
-        ensures { result ≡ around.is_valid_val self.now.list.now ty }
+        ensures { result ≡ around.is_valid_val self.now.types.now ty }
     {
         match ty {
             ValType::I32 | ValType::I64 => true,
@@ -185,8 +175,7 @@ impl<'a> Env<'a> {
     /// has, it is what the definition says.
     #[tactic(auto, using(crate::proofs::Strays::of_val))]
     pub(crate) fn is_sub_val(&self, below: ValType, above: ValType) -> bool
-        requires { IsInterned self.now }
-        ensures { result ≡ is_sub_val self.now.list.now below above }
+        ensures { result ≡ is_sub_val self.now.types.now below above }
     {
         if self.is_valid_val(below) && self.is_valid_val(above) {
             return self.types.is_sub_val(below, above);
@@ -201,8 +190,8 @@ impl<'a> Env<'a> {
     /// type.
     #[tactic(auto, using(crate::proofs::Strays::stray))]
     fn is_sub_stray(&self, below: RefType, above: RefType) -> bool
-        requires { is_valid_heap self.now.list.now below.heap && is_valid_heap self.now.list.now above.heap ≡ false }
-        ensures { result ≡ is_sub_ref self.now.list.now below above }
+        requires { is_valid_heap self.now.types.now below.heap && is_valid_heap self.now.types.now above.heap ≡ false }
+        ensures { result ≡ is_sub_ref self.now.types.now below above }
     {
         (!below.null || above.null)
             && !self.is_valid_heap(below.heap)
@@ -211,8 +200,7 @@ impl<'a> Env<'a> {
 
     /// Whether the first reference type is below the second.
     pub fn is_sub_ref(&self, below: RefType, above: RefType) -> bool
-        requires { IsInterned self.now }
-        ensures { result ≡ is_sub_ref self.now.list.now below above }
+        ensures { result ≡ is_sub_ref self.now.types.now below above }
     {
         self.is_sub_val(ValType::Ref(below), ValType::Ref(above))
     }

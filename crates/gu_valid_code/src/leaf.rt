@@ -4,7 +4,7 @@ ghost use Rattle.std.specs.Prelude.{◌≡◌, [], ◌∷◌, IfOk, Option, opti
 ghost use Rattle.std.specs.List.{list_all};
 ghost use Rattle.gu_model.specs.TypingShape.{pop_kind, push, non_null, pushes};
 ghost use Rattle.gu_model.specs.Typing as typing;
-ghost use Rattle.gu_valid_code.specs.Env.{IsInterned, context_of};
+ghost use Rattle.gu_valid_code.specs.Env.{context_of};
 ghost use Rattle.gu_valid_code.specs.State.{Did, kind_of};
 ghost use Rattle.gu_valid_code.specs.Leaf as leaf;
 ghost use Rattle.gu_valid_code.specs.Leaf.{sets_local};
@@ -66,7 +66,6 @@ fn select_by(state: &mut State) -> Result<bool, AllocError>
 
 /// A choice without a type.
 fn select(env: &Env<'_>, state: &mut State) -> Result<bool, AllocError>
-    requires { IsInterned env.now }
     ensures { IfOk result (λ typed. Did typed (typing.type_select (context_of env.now) state.old) state.new) }
 {
     if !state.pop_all(env, &[I32]) {
@@ -125,7 +124,6 @@ fn convert_of(
     to: Abs,
     found: Operand,
 ) -> Result<bool, AllocError>
-    requires { IsInterned env.now }
     ensures { IfOk result (λ typed. Did typed (typing.converts (context_of env.now) from to (kind_of found) state.old) state.new) }
 {
     if !suits(env, found, abs_or_null(from)) {
@@ -142,7 +140,6 @@ fn convert_of(
 
 /// A reference of one tree that becomes one of another.
 fn convert(env: &Env<'_>, state: &mut State, from: Abs, to: Abs) -> Result<bool, AllocError>
-    requires { IsInterned env.now }
     ensures { IfOk result (λ typed. Did typed (pop_kind state.old (typing.converts (context_of env.now) from to)) state.new) }
 {
     let Some(found) = state.take() else {
@@ -158,7 +155,6 @@ fn null_branch(
     label: &[ValType],
     found: Operand,
 ) -> Result<bool, AllocError>
-    requires { IsInterned env.now }
     ensures { IfOk result (λ typed. Did typed (leaf.null_branch (context_of env.now) label.now (kind_of found) state.old) state.new) }
 {
     let Some(given) = non_null(found) else {
@@ -178,7 +174,6 @@ fn br_on_null(
     state: &mut State,
     label: Option<&[ValType]>,
 ) -> Result<bool, AllocError>
-    requires { IsInterned env.now }
     ensures { IfOk result (λ typed. Did typed (typing.type_br_on_null (context_of env.now) (option_map (λ ts. ts.now) label.entry) state.old) state.new) }
 {
     let Some(label) = label else {
@@ -197,7 +192,6 @@ fn non_null_branch(
     ends: (&[ValType], ValType),
     found: Operand,
 ) -> Result<bool, AllocError>
-    requires { IsInterned env.now }
     ensures { IfOk result (λ typed. Did typed (leaf.non_null_branch (context_of env.now) (parts_of ends.entry) (kind_of found) state.old) state.new) }
 {
     let (before, last) = ends;
@@ -213,7 +207,6 @@ fn non_null_branch(
 
 /// A branch on a reference that is not null.
 fn br_on_non_null(env: &Env<'_>, state: &mut State, label: &[ValType]) -> Result<bool, AllocError>
-    requires { IsInterned env.now }
     ensures { IfOk result (λ typed. Did typed (typing.type_br_on_non_null (context_of env.now) (Some label.now) state.old) state.new) }
 {
     let Some(ends) = split_last(label) else {
@@ -227,7 +220,6 @@ fn br_on_non_null(env: &Env<'_>, state: &mut State, label: &[ValType]) -> Result
 
 /// Whether a label takes so many types, and could be branched to.
 fn takes(env: &Env<'_>, scope: &Scope<'_>, state: &State, count: usize, label: u32) -> bool
-    requires { IsInterned env.now }
     ensures { result ≡ typing.takes (context_of env.now) scope.now count state.now label }
 {
     match scope.label(label) {
@@ -238,7 +230,6 @@ fn takes(env: &Env<'_>, scope: &Scope<'_>, state: &State, count: usize, label: u
 
 /// Whether each label takes so many types, and could be branched to.
 fn all_take(env: &Env<'_>, scope: &Scope<'_>, state: &State, count: usize, labels: &[u32]) -> bool
-    requires { IsInterned env.now }
     ensures { result ≡ list_all (typing.takes (context_of env.now) scope.now count state.now) labels.now }
 {
     for label in labels {
@@ -257,7 +248,6 @@ fn br_table(
     labels: &[u32],
     last: u32,
 ) -> Result<bool, AllocError>
-    requires { IsInterned env.now }
     ensures { IfOk result (λ typed. Did typed (typing.type_br_table (context_of env.now) scope.now labels.now (slice_get scope.now.labels last) state.old) state.new) }
 {
     let Some(types) = scope.label(last) else {
@@ -293,8 +283,7 @@ pub(crate) fn type_leaf(
     state: &mut State,
     instr: &Instr,
 ) -> Result<bool, AllocError>
-    requires interned { IsInterned env.now }
-    requires sets_none { sets_local instr.now ≡ false }
+    requires { sets_local instr.now ≡ false }
     ensures { IfOk result (λ typed. Did typed (typing.type_leaf (context_of env.now) scope.now instr.now state.old) state.new) }
 {
     match instr {

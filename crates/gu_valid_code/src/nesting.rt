@@ -4,7 +4,6 @@ ghost use Rattle.std.specs.Prelude.{◌≡◌, true, is_some, Some, OnOk, IfOk};
 ghost use Rattle.gu_model.specs.TypingShape as typing;
 ghost use Rattle.gu_model.specs.Typing as body;
 ghost use Rattle.gu_valid_code.specs.Body.{outer_types};
-ghost use Rattle.gu_valid_code.specs.Env.{IsInterned};
 
 use crate::env::Env;
 use crate::state::{Outer, State};
@@ -26,8 +25,7 @@ impl State {
 
     /// Whether code ends with operands of these types and no more.
     pub(crate) fn ends_with(&mut self, env: &Env<'_>, results: &[ValType]) -> bool
-        requires { IsInterned env.now }
-        ensures ends { result ≡ is_some (typing.ends_with env.now.list.now results.now (Some self.old) (Some self.old)) }
+        ensures ends { result ≡ is_some (typing.ends_with env.now.types.now results.now (Some self.old) (Some self.old)) }
         ensures set { result ≡ true → self.new.set ≡ self.old.set }
     {
         self.pop_all(env, results) && self.has_none()

@@ -3,7 +3,7 @@
 ghost use Rattle.std.specs.Prelude.{◌≡◌, [], ◌∷◌, option_map, option_to_list};
 ghost use Rattle.gu_model.specs.TypingNumbers as typing;
 ghost use Rattle.gu_model.specs.TypingNumbers.{number_row};
-ghost use Rattle.gu_valid_code.specs.Env.{IsInterned, context_of};
+ghost use Rattle.gu_valid_code.specs.Env.{context_of};
 ghost use Rattle.gu_valid_code.specs.Rows.{few_of, row_of};
 
 use crate::env::Env;
@@ -83,7 +83,6 @@ fn on_memory<'a>(env: &Env<'a>, memory: u32, top: Few, given: Option<ValType>) -
 
 /// The row of an instruction that rests on no operands and no labels.
 pub(crate) fn plain_row<'a>(env: &Env<'a>, instr: &Instr) -> Option<Row<'a>>
-    requires { IsInterned env.now }
     ensures { option_map row_of result ≡ number_row (context_of env.now) instr.now }
 {
     match instr {
@@ -110,7 +109,6 @@ pub(crate) fn plain_row<'a>(env: &Env<'a>, instr: &Instr) -> Option<Row<'a>>
 
 /// The row of an instruction on whole memories and data segments, or of one that has no memory.
 fn memory_row<'a>(env: &Env<'a>, instr: &Instr) -> Option<Row<'a>>
-    requires { IsInterned env.now }
     ensures { option_map row_of result ≡ typing.memory_row (context_of env.now) instr.now }
 {
     let range = Few::Three(I32, I32, I32);

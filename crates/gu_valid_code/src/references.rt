@@ -5,10 +5,10 @@ ghost use Rattle.std.specs.List.{list_all};
 ghost use Rattle.gu_model.specs.TypingContext as around;
 ghost use Rattle.gu_model.specs.TypingReferences as typing;
 ghost use Rattle.gu_rec.specs.Validity as rec;
-ghost use Rattle.gu_valid_code.specs.Env.{IsInterned, context_of};
+ghost use Rattle.gu_valid_code.specs.Env.{context_of};
 ghost use Rattle.gu_valid_code.specs.Rows.{row_of};
 
-use crate::env::{Env, elements_at, fields_at};
+use crate::env::Env;
 use crate::row::{Below, Few, Row, Then, plain};
 use gu_syntax::Instr;
 use gu_types::ValType::{I32, Ref};
@@ -136,7 +136,7 @@ fn of_tree<'a>(env: &Env<'a>, of: RefType, given: ValType) -> Option<Row<'a>>
 fn field_at(env: &Env<'_>, ty: u32, field: u32) -> Option<FieldType>
     ensures { result ≡ typing.field_of (context_of env.now) ty field }
 {
-    fields_at(env.list, ty)?.get(field as usize).copied()
+    env.fields_at(ty)?.get(field as usize).copied()
 }
 
 /// Whether a data segment is there that may fill such elements.
@@ -148,7 +148,6 @@ fn fits_data(env: &Env<'_>, seg: u32, field: FieldType) -> bool
 
 /// Whether an element segment is there that may fill such elements.
 fn fits_elem(env: &Env<'_>, elem: u32, field: FieldType) -> bool
-    requires { IsInterned env.now }
     ensures { result ≡ typing.fits_elem (context_of env.now) elem field }
 {
     match (env.elem(elem), field.storage) {
@@ -159,8 +158,7 @@ fn fits_elem(env: &Env<'_>, elem: u32, field: FieldType) -> bool
 
 /// Whether one storage type is below another.
 fn is_sub_storage(env: &Env<'_>, below: Storage, above: Storage) -> bool
-    requires { IsInterned env.now }
-    ensures { result ≡ rec.is_sub_storage env.now.list.now below above }
+    ensures { result ≡ rec.is_sub_storage env.now.types.now below above }
 {
     match (below, above) {
         (Storage::Val(below), Storage::Val(above)) => env.is_sub_val(below, above),
@@ -171,7 +169,6 @@ fn is_sub_storage(env: &Env<'_>, below: Storage, above: Storage) -> bool
 
 /// The row of an instruction on references, or of one on structures or arrays.
 pub(crate) fn reference_row<'a>(env: &Env<'a>, instr: &Instr) -> Option<Row<'a>>
-    requires { IsInterned env.now }
     ensures { option_map row_of result ≡ typing.reference_row (context_of env.now) instr.now }
 {
     let eq = abs_or_null(Abs::Eq);
@@ -196,17 +193,16 @@ pub(crate) fn reference_row<'a>(env: &Env<'a>, instr: &Instr) -> Option<Row<'a>>
 
 /// The row of an instruction on structures, or of one on arrays.
 fn struct_row<'a>(env: &Env<'a>, instr: &Instr) -> Option<Row<'a>>
-    requires { IsInterned env.now }
     ensures { option_map row_of result ≡ typing.struct_row (context_of env.now) instr.now }
 {
     match instr {
         Instr::StructNew(ty) => Some(Row {
-            below: Below::Fields(fields_at(env.list, *ty)?),
+            below: Below::Fields(env.fields_at(*ty)?),
             top: Few::Zero,
             then: Then::Gives(Some(idx(*ty))),
         }),
         Instr::StructNewDefault(ty) => {
-            let have_defaults = all_default(fields_at(env.list, *ty)?);
+            let have_defaults = all_default(env.fields_at(*ty)?);
             given(have_defaults, plain(Few::Zero, Some(idx(*ty))))
         }
         Instr::StructGet(ty, field) => {
@@ -232,35 +228,34 @@ fn struct_row<'a>(env: &Env<'a>, instr: &Instr) -> Option<Row<'a>>
 
 /// The row of an instruction on arrays, or of one that has none here.
 fn array_row<'a>(env: &Env<'a>, instr: &Instr) -> Option<Row<'a>>
-    requires { IsInterned env.now }
     ensures { option_map row_of result ≡ typing.array_row (context_of env.now) instr.now }
 {
     match instr {
         Instr::ArrayNew(ty) => {
-            let found = elements_at(env.list, *ty)?;
+            let found = env.elements_at(*ty)?;
             Some(plain(Few::Two(field_value(found), I32), Some(idx(*ty))))
         }
         Instr::ArrayNewDefault(ty) => {
-            let found = elements_at(env.list, *ty)?;
+            let found = env.elements_at(*ty)?;
             given(field_default(found), plain(Few::One(I32), Some(idx(*ty))))
         }
         Instr::ArrayNewFixed(ty, count) => Some(Row {
-            below: Below::Copies(field_value(elements_at(env.list, *ty)?), *count),
+            below: Below::Copies(field_value(env.elements_at(*ty)?), *count),
             top: Few::Zero,
             then: Then::Gives(Some(idx(*ty))),
         }),
         Instr::ArrayGet(ty) => {
-            let found = elements_at(env.list, *ty)?;
+            let found = env.elements_at(*ty)?;
             let row = plain(Few::Two(idx_or_null(*ty), I32), Some(field_value(found)));
             given(!is_packed(found.storage), row)
         }
         Instr::ArrayGetS(ty) | Instr::ArrayGetU(ty) => {
-            let found = elements_at(env.list, *ty)?;
+            let found = env.elements_at(*ty)?;
             let row = plain(Few::Two(idx_or_null(*ty), I32), Some(I32));
             given(is_packed(found.storage), row)
         }
         Instr::ArraySet(ty) => {
-            let found = elements_at(env.list, *ty)?;
+            let found = env.elements_at(*ty)?;
             let top = Few::Three(idx_or_null(*ty), I32, field_value(found));
             given(found.mutable, plain(top, None))
         }
@@ -271,34 +266,33 @@ fn array_row<'a>(env: &Env<'a>, instr: &Instr) -> Option<Row<'a>>
 
 /// The row of an instruction on parts of arrays, or of one that has none here.
 fn range_row<'a>(env: &Env<'a>, instr: &Instr) -> Option<Row<'a>>
-    requires { IsInterned env.now }
     ensures { option_map row_of result ≡ typing.range_row (context_of env.now) instr.now }
 {
     match instr {
         Instr::ArrayNewData(ty, seg) => {
-            let found = elements_at(env.list, *ty)?;
+            let found = env.elements_at(*ty)?;
             let row = plain(Few::Two(I32, I32), Some(idx(*ty)));
             given(fits_data(env, *seg, found), row)
         }
         Instr::ArrayNewElem(ty, elem) => {
-            let found = elements_at(env.list, *ty)?;
+            let found = env.elements_at(*ty)?;
             let row = plain(Few::Two(I32, I32), Some(idx(*ty)));
             given(fits_elem(env, *elem, found), row)
         }
         Instr::ArrayFill(ty) => {
-            let found = elements_at(env.list, *ty)?;
+            let found = env.elements_at(*ty)?;
             let top = Few::Four(idx_or_null(*ty), I32, field_value(found), I32);
             given(found.mutable, plain(top, None))
         }
         Instr::ArrayCopy(to, from) => {
-            let into = elements_at(env.list, *to)?;
-            let out_of = elements_at(env.list, *from)?;
+            let into = env.elements_at(*to)?;
+            let out_of = env.elements_at(*from)?;
             let fits = into.mutable && is_sub_storage(env, out_of.storage, into.storage);
             let top = Few::Five(idx_or_null(*to), I32, idx_or_null(*from), I32, I32);
             given(fits, plain(top, None))
         }
         Instr::ArrayInitData(ty, seg) => {
-            let found = elements_at(env.list, *ty)?;
+            let found = env.elements_at(*ty)?;
             let top = Few::Four(idx_or_null(*ty), I32, I32, I32);
             given(
                 found.mutable && fits_data(env, *seg, found),
@@ -306,7 +300,7 @@ fn range_row<'a>(env: &Env<'a>, instr: &Instr) -> Option<Row<'a>>
             )
         }
         Instr::ArrayInitElem(ty, elem) => {
-            let found = elements_at(env.list, *ty)?;
+            let found = env.elements_at(*ty)?;
             let top = Few::Four(idx_or_null(*ty), I32, I32, I32);
             given(
                 found.mutable && fits_elem(env, *elem, found),

@@ -5,7 +5,6 @@ ghost use Rattle.gu_model.specs.TypingShape as typing;
 ghost use Rattle.gu_model.specs.Typing as body;
 ghost use Rattle.gu_model.specs.TypingContext as around;
 ghost use Rattle.gu_valid_code.specs.Body.{unset, before, outer_types, closed};
-ghost use Rattle.gu_valid_code.specs.Env.{IsInterned};
 ghost use Rattle.gu_types.specs.declared.types.ValType.TheVariants.{I32};
 ghost use Rattle.gu_valid_code.specs.Rows.{few_of, below_of, row_of};
 ghost use Rattle.gu_valid_code.specs.State.{Did, Took, is_endless, is_nothing, kind_of};
@@ -55,8 +54,7 @@ impl Model for State {
 
 /// Whether an operand may stand where a type is asked.
 pub(crate) fn suits(env: &Env<'_>, found: Operand, want: ValType) -> bool
-    requires { IsInterned env.now }
-    ensures { result ≡ typing.suits env.now.list.now (kind_of found) want }
+    ensures { result ≡ typing.suits env.now.types.now (kind_of found) want }
 {
     match found {
         Operand::Val(found) => env.is_sub_val(found, want),
@@ -129,8 +127,7 @@ impl State {
 
     /// Takes an operand of a type. Whether there is one.
     pub(crate) fn pop(&mut self, env: &Env<'_>, want: ValType) -> bool
-        requires { IsInterned env.now }
-        ensures typed { Did result (typing.pop_on env.now.list.now want self.old.types self.old) self.new }
+        ensures typed { Did result (typing.pop_on env.now.types.now want self.old.types self.old) self.new }
         ensures set { self.new.set ≡ self.old.set }
     {
         match self.operands.pop() {
@@ -142,16 +139,14 @@ impl State {
     /// Takes an i32, and below it operands of types in order. Whether there are such.
     #[tactic(auto, using(crate::proofs::Pops::pops_append))]
     pub(crate) fn pop_choice(&mut self, env: &Env<'_>, wants: &[ValType]) -> bool
-        requires { IsInterned env.now }
-        ensures { Did result (typing.pops env.now.list.now (wants.now ++ I32 ∷ []) self.old) self.new }
+        ensures { Did result (typing.pops env.now.types.now (wants.now ++ I32 ∷ []) self.old) self.new }
     {
         self.pop_one(env, ValType::I32) && self.pop_all(env, wants)
     }
 
     /// Takes an operand of a type. Whether there is one.
     pub(crate) fn pop_one(&mut self, env: &Env<'_>, want: ValType) -> bool
-        requires { IsInterned env.now }
-        ensures typed { Did result (typing.pops env.now.list.now (want ∷ []) self.old) self.new }
+        ensures typed { Did result (typing.pops env.now.types.now (want ∷ []) self.old) self.new }
         ensures set { self.new.set ≡ self.old.set }
     {
         self.pop(env, want)
@@ -159,8 +154,7 @@ impl State {
 
     /// Takes operands of types in order, the last of which is on top. Whether there are such.
     pub(crate) fn pop_all(&mut self, env: &Env<'_>, wants: &[ValType]) -> bool
-        requires { IsInterned env.now }
-        ensures { Did result (typing.pops env.now.list.now wants.now self.old) self.new }
+        ensures { Did result (typing.pops env.now.types.now wants.now self.old) self.new }
     {
         let mut left = wants;
         'wants: while let Some((last, before)) = left.split_last() {
@@ -182,8 +176,7 @@ impl State {
 
     /// Whether operands of types in order, the last of which is on top, could be taken.
     pub(crate) fn could_pop(&self, env: &Env<'_>, wants: &[ValType]) -> bool
-        requires { IsInterned env.now }
-        ensures { result ≡ is_some (typing.pops env.now.list.now wants.now self.now) }
+        ensures { result ≡ is_some (typing.pops env.now.types.now wants.now self.now) }
     {
         let mut left = wants;
         let mut operands = self.operands.as_slice();

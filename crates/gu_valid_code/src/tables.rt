@@ -2,7 +2,7 @@
 //! instructions), and of globals (variable instructions).
 ghost use Rattle.std.specs.Prelude.{◌≡◌, [], ◌∷◌, option_map, option_to_list};
 ghost use Rattle.gu_model.specs.TypingTables as typing;
-ghost use Rattle.gu_valid_code.specs.Env.{IsInterned, context_of};
+ghost use Rattle.gu_valid_code.specs.Env.{context_of};
 ghost use Rattle.gu_valid_code.specs.Rows.{row_of};
 
 use crate::env::Env;
@@ -14,7 +14,6 @@ use gu_types::ValType::{I32, Ref};
 
 /// A copy to a table of references of a type.
 fn copies<'a>(env: &Env<'a>, table: u32, from: RefType) -> Option<Row<'a>>
-    requires { IsInterned env.now }
     ensures { option_map row_of result ≡ typing.copies (context_of env.now) table from }
 {
     let to = env.table(table)?;
@@ -27,7 +26,6 @@ fn copies<'a>(env: &Env<'a>, table: u32, from: RefType) -> Option<Row<'a>>
 
 /// The row of an instruction on globals, tables or element segments, or of one on references.
 pub(crate) fn table_row<'a>(env: &Env<'a>, instr: &Instr) -> Option<Row<'a>>
-    requires { IsInterned env.now }
     ensures { option_map row_of result ≡ typing.table_row (context_of env.now) instr.now }
 {
     match instr {

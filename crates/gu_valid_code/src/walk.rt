@@ -5,12 +5,12 @@ ghost use Rattle.gu_syntax.specs.Code.{code_of, ins_of};
 ghost use Rattle.gu_model.specs.TypingContext as around;
 ghost use Rattle.gu_model.specs.Typing as typing;
 ghost use Rattle.gu_valid_code.specs.Body.{unset, leaves, nests, first_of, second_of};
-ghost use Rattle.gu_valid_code.specs.Env.{IsInterned, context_of, function_of};
+ghost use Rattle.gu_valid_code.specs.Env.{context_of, function_of};
 ghost use Rattle.gu_valid_code.specs.Leaf.{sets_local};
 ghost use Rattle.gu_valid_code.specs.State.{Did};
 
 use crate::control::matches;
-use crate::env::{Env, Signature, function_at};
+use crate::env::{Env, Signature};
 use crate::leaf::type_leaf;
 use crate::references::abs;
 use crate::scope::Scope;
@@ -22,7 +22,7 @@ use std::slice::from_ref;
 
 /// The function type of a block type, or `None` where it is not valid.
 fn signature_of<'a>(env: &Env<'a>, ty: &'a BlockType) -> Option<Signature<'a>>
-    ensures { option_map function_of result ≡ around.type_of_block env.now.list.now ty.now }
+    ensures { option_map function_of result ≡ around.type_of_block env.now.types.now ty.now }
 {
     match ty {
         BlockType::Empty => Some(Signature {
@@ -34,7 +34,7 @@ fn signature_of<'a>(env: &Env<'a>, ty: &'a BlockType) -> Option<Signature<'a>>
             results: from_ref(found),
         }),
         BlockType::Val(_) => None,
-        BlockType::Idx(index) => function_at(env.list, *index),
+        BlockType::Idx(index) => env.function_at(*index),
     }
 }
 
@@ -45,7 +45,6 @@ fn reaches(
     scope: &Scope<'_>,
     catch: &Catch,
 ) -> Result<bool, AllocError>
-    requires { IsInterned env.now }
     ensures { IfOk result (λ typed. typed ≡ typing.type_catch (context_of env.now) scope.now catch.now) }
 {
     let mut carried = Vec::new(alloc);
@@ -75,7 +74,6 @@ fn all_reach(
     scope: &Scope<'_>,
     catches: &[Catch],
 ) -> Result<bool, AllocError>
-    requires { IsInterned env.now }
     ensures { IfOk result (λ typed. typed ≡ list_all (typing.type_catch (context_of env.now) scope.now) catches.now) }
 {
     for catch in catches {
@@ -94,7 +92,6 @@ fn local_set(
     here: &mut Vec<u32>,
     local: u32,
 ) -> Result<bool, AllocError>
-    requires { IsInterned env.now }
     ensures typed { IfOk result (λ typed. Did typed (typing.type_local_set (context_of env.now) scope.now local state.old) state.new) }
     ensures back { IfOk result (λ typed. typed ≡ true → unset (reverse here.new.items) state.new.set ≡ unset (reverse here.old.items) state.old.set) }
 {
@@ -116,7 +113,6 @@ fn local_tee(
     here: &mut Vec<u32>,
     local: u32,
 ) -> Result<bool, AllocError>
-    requires { IsInterned env.now }
     ensures typed { IfOk result (λ typed. Did typed (typing.type_local_tee (context_of env.now) scope.now local state.old) state.new) }
     ensures back { IfOk result (λ typed. typed ≡ true → unset (reverse here.new.items) state.new.set ≡ unset (reverse here.old.items) state.old.set) }
 {
@@ -143,7 +139,6 @@ fn check_inner<'a>(
     signature: Signature<'a>,
     code: &'a [Instr],
 ) -> Result<bool, AllocError>
-    requires { IsInterned env.now }
     ensures typed { IfOk result (λ typed. typed ≡ typing.is_typed (context_of env.now) (typing.inside scope.old label.now) (code_of code.now) (typing.opened (function_of signature.entry).params state.old) (function_of signature.entry).results) }
     ensures state { IfOk result (λ typed. typed ≡ true → state.new ≡ state.old) }
     ensures scope { IfOk result (λ _. scope.new ≡ scope.old) }
@@ -167,7 +162,6 @@ fn check_last<'a>(
     signature: Signature<'a>,
     code: &'a [Instr],
 ) -> Result<bool, AllocError>
-    requires { IsInterned env.now }
     ensures typed { IfOk result (λ typed. Did typed (leaves (context_of env.now) scope.old label.now (function_of signature.entry) (code_of code.now) state.old) state.new) }
     ensures scope { IfOk result (λ _. scope.new ≡ scope.old) }
 {
@@ -189,7 +183,6 @@ fn check_nested<'a>(
     is_loop: bool,
     code: &'a [Instr],
 ) -> Result<bool, AllocError>
-    requires { IsInterned env.now }
     ensures typed { IfOk result (λ typed. Did typed (nests (context_of env.now) scope.old ty.now is_loop (code_of code.now) state.old) state.new) }
     ensures scope { IfOk result (λ _. scope.new ≡ scope.old) }
 {
@@ -213,7 +206,6 @@ fn check_first<'a>(
     ty: &'a BlockType,
     code: &'a [Instr],
 ) -> Result<bool, AllocError>
-    requires { IsInterned env.now }
     ensures typed { IfOk result (λ typed. Did typed (first_of (context_of env.now) scope.old ty.now (code_of code.now) state.old) state.new) }
     ensures scope { IfOk result (λ _. scope.new ≡ scope.old) }
 {
@@ -236,7 +228,6 @@ fn check_second<'a>(
     ty: &'a BlockType,
     code: &'a [Instr],
 ) -> Result<bool, AllocError>
-    requires { IsInterned env.now }
     ensures typed { IfOk result (λ typed. Did typed (second_of (context_of env.now) scope.old ty.now (code_of code.now) state.old) state.new) }
     ensures scope { IfOk result (λ _. scope.new ≡ scope.old) }
 {
@@ -255,8 +246,7 @@ fn check_other<'a>(
     state: &mut State,
     instr: &'a Instr,
 ) -> Result<bool, AllocError>
-    requires interned { IsInterned env.now }
-    requires sets_none { sets_local instr.now ≡ false }
+    requires { sets_local instr.now ≡ false }
     ensures typed { IfOk result (λ typed. Did typed (typing.type_ins (context_of env.now) scope.old (ins_of instr.now) state.old) state.new) }
     ensures scope { IfOk result (λ _. scope.new ≡ scope.old) }
 {
@@ -293,7 +283,6 @@ fn check_instr<'a>(
     here: &mut Vec<u32>,
     instr: &'a Instr,
 ) -> Result<bool, AllocError>
-    requires { IsInterned env.now }
     ensures typed { IfOk result (λ typed. Did typed (typing.type_ins (context_of env.now) scope.old (ins_of instr.now) state.old) state.new) }
     ensures back { IfOk result (λ typed. typed ≡ true → unset (reverse here.new.items) state.new.set ≡ unset (reverse here.old.items) state.old.set) }
     ensures scope { IfOk result (λ _. scope.new ≡ scope.old) }
@@ -316,7 +305,6 @@ pub(crate) fn check_block<'a>(
     code: &'a [Instr],
     results: &[ValType],
 ) -> Result<bool, AllocError>
-    requires { IsInterned env.now }
     ensures typed { IfOk result (λ typed. typed ≡ typing.is_typed (context_of env.now) scope.old (code_of code.now) state.old results.now) }
     ensures set { IfOk result (λ typed. typed ≡ true → state.new.set ≡ state.old.set) }
     ensures scope { IfOk result (λ _. scope.new ≡ scope.old) }

@@ -9,8 +9,8 @@ use Rattle.gu_valid_code.proofs.Constants.{sets_no_local, code_at, rest_of, pass
 use Rattle.gu_valid_code.proofs.constant.check_constant.Goals as goal
 use Rattle.gu_valid_code.proofs.constant.check_constant.Goals.{then-not-is_constant-via-then-not-is_constant, then-not-is_constant-via-else-not-is_constant+in_ok-type_leaf+then-not-branch}
 
-pub type_leaf-requires-clause-sets_none : goal.type_leaf-requires-clause-sets_none
-type_leaf-requires-clause-sets_none c =
+pub type_leaf-requires : goal.type_leaf-requires
+type_leaf-requires c =
     sets_no_local (with_globals c.args.globals (context_of c.args.env.now)) c.instr-item.result (sym c.is_constant.ensures ∙ c.if-not-is_constant.false)
 
 pub returns-then-not-is_constant : goal.returns-then-not-is_constant

@@ -3,7 +3,7 @@ use Rattle.gu_model.specs.TypingContext.{matches}
 use Rattle.gu_valid_code.proofs.control.matches.Given as goal
 
 abbrev pub invariant-pairs : goal.invariant-pairs
-invariant-pairs l = matches l.env.list.now l.left l.wants ≡ matches l.env.list.now l.below l.above
+invariant-pairs l = matches l.env.types.now l.left l.wants ≡ matches l.env.types.now l.below l.above
 
 abbrev pub decreases-pairs : goal.decreases-pairs
 decreases-pairs l = length l.left

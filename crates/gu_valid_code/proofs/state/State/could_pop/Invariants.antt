@@ -5,7 +5,7 @@ use Rattle.gu_valid_code.proofs.state.State.could_pop.Given as goal
 
 abbrev pub invariant-wants : goal.invariant-wants
 invariant-wants l =
-    is_some (pops l.env.list.now l.left (record l.self { types = map kind_of (reverse l.operands) })) ≡ is_some (pops l.env.list.now l.wants l.self)
+    is_some (pops l.env.types.now l.left (record l.self { types = map kind_of (reverse l.operands) })) ≡ is_some (pops l.env.types.now l.wants l.self)
 
 abbrev pub decreases-wants : goal.decreases-wants
 decreases-wants l = length l.left
