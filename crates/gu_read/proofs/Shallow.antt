@@ -10,24 +10,29 @@ use Rattle.gu_read_parts.specs.declared.answer.Which.TheVariants as W
 use Rattle.gu_read.specs.Limits.{if_above, first_above, params_of, results_of, fields_of, funcs_in, globals_in, locals_of, first_deeper, exceeded_or, exceeded}
 use Rattle.std.specs.Prelude.{sum_by}
 use Rattle.gu_read.specs.ReadsModule.{IsWithin}
-use Rattle.gu_read.proofs.Answered.{none_or, first_none, above_false}
+use Rattle.gu_read.proofs.Answered.{none_or, first_none}
 use Rattle.gu_read.proofs.Depths.{depth_root}
 
 -- how many of these numbers are at most so much, from the front on
 abbrev low : (f : ℕ → ℕ) (most : ℕ) → List ℕ → ℕ
 low f most xs = prefix_len (λ n. not (nat_lt most (f n))) xs
 
-low_all : (f : ℕ → ℕ) (most a n : ℕ) → n ≤ low f most (range_with_len a n) → (i : ℕ) → a ≤ i → i < a + n → f i ≤ most
-low_all f most a zero h i from below = absurd (omega arith)
-low_all f most a (suc n) h i from below = by_test (nat_lt most (f a)) refl h
-  where
-    behind : f a ≤ most → (e : Bool) → nat_eq a i ≡ e → n ≤ low f most (range_with_len (a + 1) n) → f i ≤ most
-    behind first true e h = let same : a ≡ i = grind (arith, e) in let k = ap f same in omega (arith, k, first)
-    behind first false e h = let other : a < i = grind (arith, e, from) in low_all f most (a + 1) n h i (omega arith) (omega arith)
+at_most : (a b : ℕ) → nat_lt a b ≡ false → b ≤ a
+at_most a b h = grind (arith, h)
 
-    by_test : (b : Bool) → nat_lt most (f a) ≡ b → suc n ≤ cond (not b) (1 + low f most (range_with_len (a + 1) n)) 0 → f i ≤ most
-    by_test true e h = absurd (omega (arith, h))
-    by_test false e h = behind (above_false most (f a) e) (nat_eq a i) refl (omega (arith, h))
+low_more : (f : ℕ → ℕ) (most a i : ℕ) (e : Bool) → nat_eq a i ≡ e → a ≤ i → f a ≤ most → (a + 1 ≤ i → f i ≤ most) → f i ≤ most
+low_more f most a i true e from first others = let same : a ≡ i = grind (arith, e) in let k = ap f same in omega (arith, k, first)
+low_more f most a i false e from first others = others (grind (arith, e, from))
+
+low_first : (f : ℕ → ℕ) (most a n rest : ℕ) (b : Bool) → nat_lt most (f a) ≡ b → suc n ≤ cond (not b) (1 + rest) 0 → (f a ≤ most) × (n ≤ rest)
+low_first f most a n rest true e h = absurd (omega (arith, h))
+low_first f most a n rest false e h = (at_most most (f a) e, omega (arith, h))
+
+low_all : (f : ℕ → ℕ) (most a n : ℕ) → n ≤ low f most (range_with_len a n) → (i : ℕ) → a ≤ i → i < a + n → f i ≤ most
+low_all f most a zero h i from below = absurd (omega (arith, from, below))
+low_all f most a (suc n) h i from below =
+    let w = low_first f most a n (low f most (range_with_len (a + 1) n)) (nat_lt most (f a)) refl h in
+    low_more f most a i (nat_eq a i) refl from w.0 (λ above. low_all f most (a + 1) n w.1 i above (omega (arith, below)))
 
 -- the last limit is not exceeded where none is
 none_deeper : (m : Module) → exceeded m ≡ None → first_deeper 63 (types_of m.types) ≡ None
@@ -59,6 +64,6 @@ within_is_shallow m within i =
     let count = length-range_with_len 0 (length types) in
     let all = first_none (low (depth types) 63 indices) (length indices) (nat_lt (low (depth types) 63 indices) (length indices)) refl (none_deeper m within.counted) in
     elim (slice_get_cases types i).1 as (λ _. depth types i ≤ 63) [
-      | inl w ↦ let inside = w.1.0 in low_all (depth types) 63 0 (length types) (omega (arith, count, all)) i (omega arith) (omega (arith, inside))
+      | inl w ↦ let inside = w.1 in low_all (depth types) 63 0 (length types) (omega (arith, count, all)) i (omega arith) (omega (arith, inside))
       | inr w ↦ let root = depth_root types i (ap (λ o. smaller i (first_super o)) w.1) in omega (arith, root)
     ]
