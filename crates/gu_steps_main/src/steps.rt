@@ -77,6 +77,7 @@ pub fn read_times(
 }
 
 /// Whether the module that the bytes spell is valid, looked at so many times, once at least.
+#[tactic(auto, using(gu_read::proofs::Shallow::within_is_shallow))]
 pub fn check_times(
     rt: &(impl Threads + Sync),
     alloc: Global,
@@ -121,6 +122,7 @@ pub fn copied(rt: &(impl Threads + Sync), alloc: Global, bytes: &[u8]) -> Result
 
 /// How many of so many subtype queries on the types of the module that the bytes spell are answered
 /// by yes. The indices that are asked for are spread over all types.
+#[tactic(auto, using(gu_read::proofs::Shallow::within_is_shallow))]
 pub fn ask_times(
     rt: &(impl Threads + Sync),
     alloc: Global,
