@@ -164,7 +164,7 @@ fn ask(types: &Types, count: u32, times: u32) -> u32
     }
     let mut below = 0;
     let mut index = 0;
-    for _ in 0..times {
+    'queries: for _ in 0..times {
         index = STRIDE.wrapping_add(index) % count;
         if is_below(types, index, index - index % CHAIN) {
             below += 1;
