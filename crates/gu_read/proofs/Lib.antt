@@ -9,3 +9,4 @@ pub mod Depths
 pub mod Flat
 pub mod Counting
 pub mod Rowing
+pub mod Shallow

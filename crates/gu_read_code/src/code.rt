@@ -19,8 +19,8 @@ const END: u8 = 0x0B;
 /// The code between the branches of an `if`.
 const ELSE: u8 = 0x05;
 
-/// How many instructions are made room for at first.
-const FEW: usize = 16;
+/// How many instructions are made room for at first: a kilobyte.
+const FEW: usize = 14;
 
 /// Instructions up to the code that ends them.
 #[derive(Debug, Drop)]
@@ -47,10 +47,10 @@ pub fn read_until(
     let mut rest = bytes;
     'code: while let Some((op, more)) = rest.split_first() {
         if *op == END {
-            return Ok((close_branch(code, false), more));
+            return Ok((close_branch(alloc, code, false), more));
         }
         if may_split && *op == ELSE {
-            return Ok((close_branch(code, true), more));
+            return Ok((close_branch(alloc, code, true), more));
         }
         let (instr, behind) = read_instr(alloc, room, *op, more)?;
         code.push(instr)?;
@@ -67,16 +67,34 @@ fn new_code(alloc: Global) -> Result<List<Instr>, AllocError>
 }
 
 /// These instructions, in no more memory than they need.
-fn close_branch(code: List<Instr>, at_else: bool) -> Branch
+fn close_branch(alloc: Global, code: List<Instr>, at_else: bool) -> Branch
     ensures code { result.code.code ≡ code }
     ensures at_else { result.at_else ≡ at_else }
 {
-    let mut items = code.into_vec();
-    items.shrink_to_fit();
-    let code = List::from_vec(items);
+    let code = List::from_vec(trimmed(alloc, code.into_vec()));
     Branch {
         code: Body { code },
         at_else,
+    }
+}
+
+/// The same instructions, in no more memory than they need. A few move to a place of their own size, so
+/// that the room that was made for them goes whole to the next ones, and leaves no gap that is too
+/// small for them. Where there is no memory for that they stay.
+fn trimmed(alloc: Global, instrs: Vec<Instr>) -> Vec<Instr>
+    ensures { result.items ≡ instrs.items }
+{
+    let mut items = instrs;
+    if items.len() > FEW {
+        items.shrink_to_fit();
+        return items;
+    }
+    let Ok(mut exact) = Vec::with_capacity(alloc, items.len()) else {
+        return items;
+    };
+    match exact.append(&mut items) {
+        Ok(()) => exact,
+        Err(_) => items,
     }
 }
 

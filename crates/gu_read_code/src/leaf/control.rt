@@ -11,6 +11,7 @@ use gu_syntax::Instr;
 use std::alloc::Global;
 
 /// Control instructions that hold no code (5.4.1 Control Instructions).
+#[inline(always)]
 pub fn read_control(alloc: Global, op: u8, bytes: &[u8]) -> Result<(Instr, &[u8]), Stop>
     requires variable { Lacks variable_codes op }
     ensures value { Gives result (leaf_at (suc (length bytes.now)) op bytes.now) }

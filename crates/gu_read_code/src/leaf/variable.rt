@@ -11,6 +11,7 @@ use std::alloc::Global;
 
 /// Variables, entries of tables, the sizes of memories and constants (5.4.4 Variable Instructions,
 /// 5.4.5 Table Instructions, 5.4.6 Memory Instructions, 5.4.7 Numeric Instructions).
+#[inline(always)]
 pub fn read_variable(alloc: Global, op: u8, bytes: &[u8]) -> Result<(Instr, &[u8]), Stop>
     ensures value { Gives result (leaf_at (suc (length bytes.now)) op bytes.now) }
     ensures inside { left_of result ≤ length bytes.now + 1 }
