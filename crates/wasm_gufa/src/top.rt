@@ -22,11 +22,7 @@ use std::thread::Threads;
 const INPUT_LIMIT: usize = 16_777_216;
 
 /// The module that the bytes spell, where it is within the limits and valid.
-fn accepted(
-    rt: &(impl Threads + Sync),
-    alloc: Global,
-    bytes: &[u8],
-) -> Result<ValidModule, Status>
+fn accepted(rt: &(impl Threads + Sync), alloc: Global, bytes: &[u8]) -> Result<ValidModule, Status>
     ensures ok { IfOk result (Accepts bytes.now) }
     ensures err { IfErr result (Blames bytes.now) }
 {

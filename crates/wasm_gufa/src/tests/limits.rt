@@ -211,7 +211,8 @@ fn depth_of_types_is_limited(rt: HostRuntime) -> Result<(), Fail> {
 
 #[test]
 fn nesting_is_limited(rt: HostRuntime) -> Result<(), Fail> {
-    let head = b"\x00asm\x01\x00\x00\x00\x01\x04\x01\x60\x00\x00\x03\x02\x01\x00\x0A\xBD\x17\x01\xBA\x17\x00";
+    let head =
+        b"\x00asm\x01\x00\x00\x00\x01\x04\x01\x60\x00\x00\x03\x02\x01\x00\x0A\xBD\x17\x01\xBA\x17\x00";
     let mut bytes = Vec::from_slice(rt.alloc(), head)?;
     for _ in 0..1000 {
         bytes.extend_from_slice(b"\x02\x40")?;
@@ -233,6 +234,12 @@ fn nesting_is_limited(rt: HostRuntime) -> Result<(), Fail> {
         which: Which::Nesting,
         at: 2033,
     };
-    expect(&rt, &ran, status, b"", b"wasm-gufa: limit nesting at 2033\n");
+    expect(
+        &rt,
+        &ran,
+        status,
+        b"",
+        b"wasm-gufa: limit nesting at 2033\n",
+    );
     Ok(())
 }

@@ -139,11 +139,7 @@ fn modules_that_are_not_valid_are_refused(rt: HostRuntime) -> Result<(), Fail> {
             Part::Export(0),
             b"wasm-gufa: invalid, export 0\n",
         ),
-        (
-            b"\x08\x01\x00",
-            Part::Start,
-            b"wasm-gufa: invalid, start\n",
-        ),
+        (b"\x08\x01\x00", Part::Start, b"wasm-gufa: invalid, start\n"),
         (
             b"\x09\x05\x01\x01\x00\x01\x00",
             Part::Element(0),
