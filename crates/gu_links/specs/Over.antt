@@ -1,0 +1,54 @@
+-- Which types and which functions a content can lead to.
+use Rattle.std.specs.Prelude.{ℕ, Bool, false, ◌&&◌, List, length, filter, nat_eq, nat_lt, slice_index}
+use Rattle.std.specs.List.{list_any}
+use Rattle.gu_types.specs.declared.types.HeapType.TheVariants as H
+use Rattle.gu_types.specs.declared.types.RefType.{RefType}
+use Rattle.gu_types.specs.Depth.{types_of}
+use Rattle.gu_rec.specs.Keys.{run}
+use Rattle.gu_rec.specs.Sub.{is_sub}
+use Rattle.gu_contents.specs.declared.content.Core.TheVariants.{Func, Cone}
+use Rattle.gu_contents.specs.declared.content.Content.{Content}
+use Rattle.gu_contents.specs.declared.content.Content.TheVariants.{Ref}
+use Rattle.gu_contents.specs.declared.facts.Facts.{Facts}
+use Rattle.gu_contents.specs.Contents.{least_of, cone_of}
+use Rattle.gu_contents.specs.Order.{cone_at_most}
+use Rattle.gu_contents.specs.Meets as meets
+use Rattle.gu_links.specs.declared.link.Link.{Link}
+use Rattle.gu_links.specs.declared.link.Link.TheVariants.{Callable}
+use Rattle.gu_links.specs.Cells.{is_least, slots_of}
+
+-- the references to the type with an index, without null
+abbrev pub ref_to : ℕ → RefType
+ref_to ty = record { null = false; heap = H.Idx ty }
+
+-- Whether a content covers the type with an index. A cone covers the types that stand below its head by as many edges as
+-- it is deep, or fewer; a function covers its own type alone, and a global what its bound covers. What is no reference,
+-- or null alone, covers none
+abbrev pub covers : Facts → Content → ℕ → Bool
+covers f (Ref n c) ty = cone_at_most f (Cone (H.Idx ty) 0) (cone_of f c)
+covers f _ ty = false
+
+-- Whether a content covers the function with an index: one function covers itself alone, and each other content the
+-- functions whose type it covers
+abbrev pub covers_func : Facts → Content → ℕ → Bool
+covers_func f (Ref n (Func h)) g = nat_eq h g
+covers_func f a g = covers f a (least_of f.types (slice_index f.funcs g))
+
+-- the types at or below the type with an index, each by its least index, that a content covers where it is filtered to
+-- references to that type
+unfoldable pub over : Facts → Content → ℕ → List ℕ
+over f a ty = filter (λ s. is_least f.types s && is_sub f.types (H.Idx s) (H.Idx ty) && covers f (meets.filter f a (ref_to ty)) s) (run 0 (length (types_of f.types)))
+
+-- those of them that have a slot. In a valid module all have the slots of the types above them
+unfoldable pub over_slot : Facts → Content → ℕ → ℕ → List ℕ
+over_slot f a ty slot = filter (λ s. nat_lt slot (slots_of f.types s)) (over f a ty)
+
+-- whether a link says that the function with an index can be called by reference
+abbrev pub names : ℕ → Link → Bool
+names g (Callable h) = nat_eq h g
+names g _ = false
+
+-- the functions that can be called by reference, whose type is at or below the type with an index, and that a content
+-- covers where it is filtered to references to that type
+unfoldable pub callees : Facts → List Link → Content → ℕ → List ℕ
+callees f links a ty = filter (λ g. list_any (names g) links && is_sub f.types (H.Idx (slice_index f.funcs g)) (H.Idx ty) && covers_func f (meets.filter f a (ref_to ty)) g) (run 0 (length f.funcs))

@@ -1,0 +1,6 @@
+//! Links between cells: what flows from one cell of a program into others, and the least solution.
+#![tactic(auto)]
+
+mod link;
+
+pub use link::Link;
