@@ -34,21 +34,33 @@ abbrev pub covers_func : Facts → Content → ℕ → Bool
 covers_func f (Ref n (Func h)) g = nat_eq h g
 covers_func f a g = covers f a (least_of f.types (slice_index f.funcs g))
 
+-- whether the type with an index, the least of its type, is at or below another, and a content covers it where it is
+-- filtered to references to the other
+unfoldable pub is_over : Facts → Content → ℕ → ℕ → Bool
+is_over f a ty s = is_least f.types s && (is_sub f.types (H.Idx s) (H.Idx ty) && covers f (meets.filter f a (ref_to ty)) s)
+
 -- the types at or below the type with an index, each by its least index, that a content covers where it is filtered to
 -- references to that type
 unfoldable pub over : Facts → Content → ℕ → List ℕ
-over f a ty = filter (λ s. is_least f.types s && is_sub f.types (H.Idx s) (H.Idx ty) && covers f (meets.filter f a (ref_to ty)) s) (run 0 (length (types_of f.types)))
+over f a ty = filter (is_over f a ty) (run 0 (length (types_of f.types)))
 
 -- those of them that have a slot. In a valid module all have the slots of the types above them
+abbrev pub has_slot : Facts → ℕ → ℕ → Bool
+has_slot f slot s = nat_lt slot (slots_of f.types s)
+
 unfoldable pub over_slot : Facts → Content → ℕ → ℕ → List ℕ
-over_slot f a ty slot = filter (λ s. nat_lt slot (slots_of f.types s)) (over f a ty)
+over_slot f a ty slot = filter (has_slot f slot) (over f a ty)
 
 -- whether a link says that the function with an index can be called by reference
 abbrev pub names : ℕ → Link → Bool
 names g (Callable h) = nat_eq h g
 names g _ = false
 
--- the functions that can be called by reference, whose type is at or below the type with an index, and that a content
--- covers where it is filtered to references to that type
+-- whether the type of a function is at or below the type with an index, and a content covers the function where it is
+-- filtered to references to that type
+unfoldable pub is_callee : Facts → Content → ℕ → ℕ → Bool
+is_callee f a ty g = is_sub f.types (H.Idx (slice_index f.funcs g)) (H.Idx ty) && covers_func f (meets.filter f a (ref_to ty)) g
+
+-- those functions that can be called by reference
 unfoldable pub callees : Facts → List Link → Content → ℕ → List ℕ
-callees f links a ty = filter (λ g. list_any (names g) links && is_sub f.types (H.Idx (slice_index f.funcs g)) (H.Idx ty) && covers_func f (meets.filter f a (ref_to ty)) g) (run 0 (length f.funcs))
+callees f links a ty = filter (λ g. list_any (names g) links && is_callee f a ty g) (run 0 (length f.funcs))
