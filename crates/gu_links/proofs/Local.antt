@@ -10,7 +10,7 @@ use Rattle.gu_contents.specs.Numbers.{pack, extend}
 use Rattle.gu_links.specs.declared.link.Link.{Link}
 use Rattle.gu_links.specs.declared.link.Link.TheVariants as L
 use Rattle.gu_links.specs.Cells.{slot_cell, param_cells, out_cells}
-use Rattle.gu_links.specs.Over.{over_slot, callees}
+use Rattle.gu_links.specs.Over.{over, callees}
 use Rattle.gu_links.specs.Gives.{Contents, Asked, gives, reads, non_null, internalised, externalised, slot_of, joined, into_slots, call}
 use Rattle.gu_links.specs.Laws.{Agree, IsSameOn}
 use Rattle.gu_links.proofs.Agreeing.{first, rest, front, back, map_same, cells_same, flat_same}
@@ -42,34 +42,34 @@ module _ (f : Facts) (links : List Link) (x y : Contents) where
   }
   same_on (L.Pack storage from to) h = one (L.Pack storage from to) from to (pack storage) refl refl refl refl h
   same_on (L.SlotGet object ty slot storage signed to) h =
-      let types = over_slot f (x object) ty slot in
+      let types = over f (x object) ty slot in
       let e = first x y object (map (λ s. slot_cell f s slot) types) h in
       let es = map_same x y (λ s. slot_cell f s slot) (λ a. (to, extend storage signed a)) types (rest x y object (map (λ s. slot_cell f s slot) types) h) in
       record {
-        reads_are = ap (λ a. object ∷ map (λ s. slot_cell f s slot) (over_slot f a ty slot)) e;
-        gives_are = es ∙ ap (λ a. map (λ s. (to, extend storage signed (slot_of f y slot s))) (over_slot f a ty slot)) e;
+        reads_are = ap (λ a. object ∷ map (λ s. slot_cell f s slot) (over f a ty slot)) e;
+        gives_are = es ∙ ap (λ a. map (λ s. (to, extend storage signed (slot_of f y slot s))) (over f a ty slot)) e;
       }
   same_on (L.SlotSet object ty slot storage from) h = record {
     reads_are = refl;
     gives_are = let e = first x y object (from ∷ []) h in let d = first x y from [] (rest x y object (from ∷ []) h) in
-    ap (λ a. into_slots f slot (pack storage a) (over_slot f (x object) ty slot)) d ∙ ap (λ a. into_slots f slot (pack storage (y from)) (over_slot f a ty slot)) e;
+    ap (λ a. into_slots f slot (pack storage a) (over f (x object) ty slot)) d ∙ ap (λ a. into_slots f slot (pack storage (y from)) (over f a ty slot)) e;
   }
   same_on (L.SlotFill object ty slot give) h = record {
     reads_are = refl;
-    gives_are = ap (λ a. into_slots f slot give (over_slot f a ty slot)) (first x y object [] h);
+    gives_are = ap (λ a. into_slots f slot give (over f a ty slot)) (first x y object [] h);
   }
   same_on (L.SlotCopy target to_ty source from_ty) h =
-      let types = over_slot f (x source) from_ty 0 in
+      let types = over f (x source) from_ty 0 in
       let cells = map (λ s. slot_cell f s 0) types in
       let t = first x y target (source ∷ cells) h in
       let h1 = rest x y target (source ∷ cells) h in
       let e = first x y source cells h1 in
       let es = map_same x y (λ s. slot_cell f s 0) (λ a. a) types (rest x y source cells h1) in
       record {
-        reads_are = ap (λ a. target ∷ source ∷ map (λ s. slot_cell f s 0) (over_slot f a from_ty 0)) e;
-        gives_are = ap (λ held. into_slots f 0 (fold (join f) Empty held) (over_slot f (x target) to_ty 0)) es
-        ∙ (ap (λ a. into_slots f 0 (joined f y (over_slot f a from_ty 0)) (over_slot f (x target) to_ty 0)) e
-        ∙ ap (λ a. into_slots f 0 (joined f y (over_slot f (y source) from_ty 0)) (over_slot f a to_ty 0)) t);
+        reads_are = ap (λ a. target ∷ source ∷ map (λ s. slot_cell f s 0) (over f a from_ty 0)) e;
+        gives_are = ap (λ held. into_slots f 0 (fold (join f) Empty held) (over f (x target) to_ty 0)) es
+        ∙ (ap (λ a. into_slots f 0 (joined f y (over f a from_ty 0)) (over f (x target) to_ty 0)) e
+        ∙ ap (λ a. into_slots f 0 (joined f y (over f (y source) from_ty 0)) (over f a to_ty 0)) t);
       }
   same_on (L.CallBy callee ty operands results) h =
       let gs = callees f links (x callee) ty in

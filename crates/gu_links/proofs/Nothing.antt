@@ -18,7 +18,7 @@ use Rattle.gu_types.specs.declared.types.Storage.TheVariants as S
 use Rattle.gu_links.specs.declared.link.Link.{Link}
 use Rattle.gu_links.specs.declared.link.Link.TheVariants as L
 use Rattle.gu_links.specs.Cells.{slot_cell, out_cells, is_least}
-use Rattle.gu_links.specs.Over.{over, over_slot, callees, is_over, is_callee, has_slot, names}
+use Rattle.gu_links.specs.Over.{over, callees, is_over, is_callee, has_slot, names}
 use Rattle.gu_links.specs.Gives.{Contents, Asked, gives, reads, IsRoot, non_null, internalised, externalised, joined, into_slots, call}
 
 none_kept : {A : Type 0} (p : A → Bool) (xs : List A) → ((x : A) → p x ≡ false) → keep p xs ≡ []
@@ -33,13 +33,9 @@ callee_none : (f : Facts) (ty g : ℕ) → is_callee f Empty ty g ≡ false
 unfolding is_callee filter
 callee_none f ty g = and_right (is_sub f.types (H.Idx (slice_index f.funcs g)) (H.Idx ty)) false refl
 
-pub over_nothing : (f : Facts) (ty : ℕ) → over f Empty ty ≡ []
+pub over_nothing : (f : Facts) (ty slot : ℕ) → over f Empty ty slot ≡ []
 unfolding over
-over_nothing f ty = none_kept (is_over f Empty ty) (run 0 (length (types_of f.types))) (over_none f ty)
-
-pub over_slot_nothing : (f : Facts) (ty slot : ℕ) → over_slot f Empty ty slot ≡ []
-unfolding over_slot
-over_slot_nothing f ty slot = ap (keep (has_slot f slot)) (over_nothing f ty)
+over_nothing f ty slot = none_kept (λ s. has_slot f slot s && is_over f Empty ty s) (run 0 (length (types_of f.types))) (λ s. and_right (has_slot f slot s) (is_over f Empty ty s) (over_none f ty s))
 
 pub callees_nothing : (f : Facts) (links : List Link) (ty : ℕ) → callees f links Empty ty ≡ []
 unfolding callees
@@ -67,8 +63,8 @@ module _ (f : Facts) (links : List Link) (x : Contents) where
   pack_nothing S.I16 = refl
   pack_nothing (S.Val ty) = refl
 
-  slots_nothing : (slot ty : ℕ) (a b : Content) → b ≡ Empty → into_slots f slot a (over_slot f b ty slot) ≡ []
-  slots_nothing slot ty a b e = ap (λ c. into_slots f slot a (over_slot f c ty slot)) e ∙ ap (into_slots f slot a) (over_slot_nothing f ty slot)
+  slots_nothing : (slot ty : ℕ) (a b : Content) → b ≡ Empty → into_slots f slot a (over f b ty slot) ≡ []
+  slots_nothing slot ty a b e = ap (λ c. into_slots f slot a (over f c ty slot)) e ∙ ap (into_slots f slot a) (over_nothing f ty slot)
 
   pub gives_nothing : (link : Link) → (IsRoot link → ⊥) → Nothing (reads f links link x) → All IsNone (gives f links link x)
   unfolding gives reads non_null filter minus test is_null equal internalised externalised
@@ -82,13 +78,13 @@ module _ (f : Facts) (links : List Link) (x : Contents) where
   gives_nothing (L.Equal left right to) root h = one to _ (ap (λ a. equal f a (x right)) (head left (right ∷ []) h))
   gives_nothing (L.Pack storage from to) root h = one to _ (ap (pack storage) (head from [] h) ∙ pack_nothing storage)
   gives_nothing (L.SlotGet object ty slot storage signed to) root h =
-      let e = head object (map (λ s. slot_cell f s slot) (over_slot f (x object) ty slot)) h in
-      let es : over_slot f (x object) ty slot ≡ [] = ap (λ a. over_slot f a ty slot) e ∙ over_slot_nothing f ty slot in
+      let e = head object (map (λ s. slot_cell f s slot) (over f (x object) ty slot)) h in
+      let es : over f (x object) ty slot ≡ [] = ap (λ a. over f a ty slot) e ∙ over_nothing f ty slot in
       none _ (ap (map _) es)
   gives_nothing (L.SlotSet object ty slot storage from) root h = none _ (slots_nothing slot ty _ (x object) (head object (from ∷ []) h))
   gives_nothing (L.SlotFill object ty slot give) root h = none _ (slots_nothing slot ty _ (x object) (head object [] h))
   gives_nothing (L.SlotCopy target to_ty source from_ty) root h =
-      none _ (slots_nothing 0 to_ty _ (x target) (head target (source ∷ map (λ s. slot_cell f s 0) (over_slot f (x source) from_ty 0)) h))
+      none _ (slots_nothing 0 to_ty _ (x target) (head target (source ∷ map (λ s. slot_cell f s 0) (over f (x source) from_ty 0)) h))
   gives_nothing (L.CallBy callee ty operands results) root h =
       let e = head callee (operands ++ flat_map (out_cells f) (callees f links (x callee) ty)) h in
       let es : callees f links (x callee) ty ≡ [] = ap (λ a. callees f links a ty) e ∙ callees_nothing f links ty in

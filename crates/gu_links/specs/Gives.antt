@@ -15,7 +15,7 @@ use Rattle.gu_contents.specs.Numbers.{pack, extend}
 use Rattle.gu_links.specs.declared.link.Link.{Link}
 use Rattle.gu_links.specs.declared.link.Link.TheVariants as L
 use Rattle.gu_links.specs.Cells.{slot_cell, param_cells, out_cells}
-use Rattle.gu_links.specs.Over.{over_slot, callees}
+use Rattle.gu_links.specs.Over.{over, callees}
 
 -- what each cell has
 abbrev pub Contents : Type 0
@@ -72,10 +72,10 @@ gives f links (L.Test from by to) x = (to, test f (x from) by) ∷ []
 gives f links (L.IsNull from to) x = (to, is_null (x from)) ∷ []
 gives f links (L.Equal left right to) x = (to, equal f (x left) (x right)) ∷ []
 gives f links (L.Pack storage from to) x = (to, pack storage (x from)) ∷ []
-gives f links (L.SlotGet object ty slot storage signed to) x = map (λ s. (to, extend storage signed (slot_of f x slot s))) (over_slot f (x object) ty slot)
-gives f links (L.SlotSet object ty slot storage from) x = into_slots f slot (pack storage (x from)) (over_slot f (x object) ty slot)
-gives f links (L.SlotFill object ty slot give) x = into_slots f slot give (over_slot f (x object) ty slot)
-gives f links (L.SlotCopy target to_ty source from_ty) x = into_slots f 0 (joined f x (over_slot f (x source) from_ty 0)) (over_slot f (x target) to_ty 0)
+gives f links (L.SlotGet object ty slot storage signed to) x = map (λ s. (to, extend storage signed (slot_of f x slot s))) (over f (x object) ty slot)
+gives f links (L.SlotSet object ty slot storage from) x = into_slots f slot (pack storage (x from)) (over f (x object) ty slot)
+gives f links (L.SlotFill object ty slot give) x = into_slots f slot give (over f (x object) ty slot)
+gives f links (L.SlotCopy target to_ty source from_ty) x = into_slots f 0 (joined f x (over f (x source) from_ty 0)) (over f (x target) to_ty 0)
 gives f links (L.CallBy callee ty operands results) x = flat_map (call f operands results x) (callees f links (x callee) ty)
 gives f links (L.Internalise from to) x = (to, internalised f (x from)) ∷ []
 gives f links (L.Externalise from to) x = (to, externalised (x from)) ∷ []
@@ -93,10 +93,10 @@ reads f links (L.Test from by to) x = from ∷ []
 reads f links (L.IsNull from to) x = from ∷ []
 reads f links (L.Equal left right to) x = left ∷ right ∷ []
 reads f links (L.Pack storage from to) x = from ∷ []
-reads f links (L.SlotGet object ty slot storage signed to) x = object ∷ map (λ s. slot_cell f s slot) (over_slot f (x object) ty slot)
+reads f links (L.SlotGet object ty slot storage signed to) x = object ∷ map (λ s. slot_cell f s slot) (over f (x object) ty slot)
 reads f links (L.SlotSet object ty slot storage from) x = object ∷ from ∷ []
 reads f links (L.SlotFill object ty slot give) x = object ∷ []
-reads f links (L.SlotCopy target to_ty source from_ty) x = target ∷ source ∷ map (λ s. slot_cell f s 0) (over_slot f (x source) from_ty 0)
+reads f links (L.SlotCopy target to_ty source from_ty) x = target ∷ source ∷ map (λ s. slot_cell f s 0) (over f (x source) from_ty 0)
 reads f links (L.CallBy callee ty operands results) x = callee ∷ operands ++ flat_map (out_cells f) (callees f links (x callee) ty)
 reads f links (L.Internalise from to) x = from ∷ []
 reads f links (L.Externalise from to) x = from ∷ []

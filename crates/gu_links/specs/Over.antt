@@ -1,5 +1,5 @@
 -- Which types and which functions a content can lead to.
-use Rattle.std.specs.Prelude.{ℕ, Bool, false, ◌&&◌, List, length, filter, nat_eq, nat_lt, slice_index}
+use Rattle.std.specs.Prelude.{ℕ, Bool, true, false, ◌&&◌, List, length, filter, nat_eq, nat_lt, slice_index}
 use Rattle.std.specs.List.{list_any}
 use Rattle.gu_types.specs.declared.types.HeapType.TheVariants as H
 use Rattle.gu_types.specs.declared.types.RefType.{RefType}
@@ -8,7 +8,7 @@ use Rattle.gu_rec.specs.Keys.{run}
 use Rattle.gu_rec.specs.Sub.{is_sub}
 use Rattle.gu_contents.specs.declared.content.Core.TheVariants.{Func, Cone}
 use Rattle.gu_contents.specs.declared.content.Content.{Content}
-use Rattle.gu_contents.specs.declared.content.Content.TheVariants.{Ref}
+use Rattle.gu_contents.specs.declared.content.Content.TheVariants.{Ref, Top}
 use Rattle.gu_contents.specs.declared.facts.Facts.{Facts}
 use Rattle.gu_contents.specs.Contents.{least_of, cone_of}
 use Rattle.gu_contents.specs.Order.{cone_at_most}
@@ -23,9 +23,10 @@ ref_to ty = record { null = false; heap = H.Idx ty }
 
 -- Whether a content covers the type with an index. A cone covers the types that stand below its head by as many edges as
 -- it is deep, or fewer; a function covers its own type alone, and a global what its bound covers. What is no reference,
--- or null alone, covers none
+-- or null alone, covers none, and all values cover every type
 abbrev pub covers : Facts → Content → ℕ → Bool
 covers f (Ref n c) ty = cone_at_most f (Cone (H.Idx ty) 0) (cone_of f c)
+covers f Top ty = true
 covers f _ ty = false
 
 -- Whether a content covers the function with an index: one function covers itself alone, and each other content the
@@ -39,17 +40,14 @@ covers_func f a g = covers f a (least_of f.types (slice_index f.funcs g))
 unfoldable pub is_over : Facts → Content → ℕ → ℕ → Bool
 is_over f a ty s = is_least f.types s && (is_sub f.types (H.Idx s) (H.Idx ty) && covers f (meets.filter f a (ref_to ty)) s)
 
--- the types at or below the type with an index, each by its least index, that a content covers where it is filtered to
--- references to that type
-unfoldable pub over : Facts → Content → ℕ → List ℕ
-over f a ty = filter (is_over f a ty) (run 0 (length (types_of f.types)))
-
--- those of them that have a slot. In a valid module all have the slots of the types above them
+-- whether the type with an index has a slot. In a valid module it does where a type above it does
 abbrev pub has_slot : Facts → ℕ → ℕ → Bool
 has_slot f slot s = nat_lt slot (slots_of f.types s)
 
-unfoldable pub over_slot : Facts → Content → ℕ → ℕ → List ℕ
-over_slot f a ty slot = filter (has_slot f slot) (over f a ty)
+-- the types at or below the type with an index, each by its least index, that have a slot, and that a content covers
+-- where it is filtered to references to that type
+unfoldable pub over : Facts → Content → ℕ → ℕ → List ℕ
+over f a ty slot = filter (λ s. has_slot f slot s && is_over f a ty s) (run 0 (length (types_of f.types)))
 
 -- whether a link says that the function with an index can be called by reference
 abbrev pub names : ℕ → Link → Bool
