@@ -117,8 +117,8 @@ module _ (f : Facts) (lattice : ContentsAreALattice f) (answers : AnswersBelong 
   covers_func_up (Ref n (Func h)) (Ref m (Global k)) g ha hb le is e = func_up h g (Global k) hb.1 (eqb-true h g e) (and_parts _ _ le.holds).1
   covers_func_up (Ref n (Func h)) (Ref m (Cone head depth)) g ha hb le is e = func_up h g (Cone head depth) hb.1 (eqb-true h g e) (and_parts _ _ le.holds).1
   covers_func_up (Ref n Bottom) (Ref m d) g ha hb le is e = cc
-  covers_func_up (Ref n (Global i)) (Ref m (Func k)) g ha hb le is e = let none = no_func (Global i) k ha.1 (and_parts _ _ le.holds).1 in let bad : Bottom ≡ Cone ha.1.head ha.1.depth = sym none ∙ ha.1.bound_is in cc
-  covers_func_up (Ref n (Cone head depth)) (Ref m (Func k)) g ha hb le is e = let none = no_func (Cone head depth) k ha.1 (and_parts _ _ le.holds).1 in cc
+  covers_func_up (Ref n (Global i)) (Ref m (Func k)) g ha hb le is e = let none : bound f i ≡ Bottom = no_func (Global i) k ha.1 (and_parts _ _ le.holds).1 in let bad : Bottom ≡ Cone ha.1.head ha.1.depth = sym none ∙ ha.1.bound_is in cc
+  covers_func_up (Ref n (Cone head depth)) (Ref m (Func k)) g ha hb le is e = let none : Cone head depth ≡ Bottom = no_func (Cone head depth) k ha.1 (and_parts _ _ le.holds).1 in cc
   covers_func_up (Ref n (Global i)) (Ref m Bottom) g ha hb le is e = covers_type_up (Ref n (Global i)) (Ref m Bottom) g ha hb le is e
   covers_func_up (Ref n (Global i)) (Ref m (Global k)) g ha hb le is e = covers_type_up (Ref n (Global i)) (Ref m (Global k)) g ha hb le is e
   covers_func_up (Ref n (Global i)) (Ref m (Cone b k)) g ha hb le is e = covers_type_up (Ref n (Global i)) (Ref m (Cone b k)) g ha hb le is e

@@ -2,3 +2,5 @@ pub mod Agreeing
 pub mod Local
 pub mod Nothing
 pub mod Covering
+pub mod Lists
+pub mod Converting
