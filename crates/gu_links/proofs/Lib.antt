@@ -4,3 +4,5 @@ pub mod Nothing
 pub mod Covering
 pub mod Lists
 pub mod Converting
+pub mod Numbering
+pub mod Given
