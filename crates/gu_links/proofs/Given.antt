@@ -106,7 +106,7 @@ all_zip {A} {B} P Q [] ys h k = All-nil (λ (p : A × B). P p.0 × Q p.1)
 all_zip {A} {B} P Q (x ∷ xs) [] h k = All-nil (λ (p : A × B). P p.0 × Q p.1)
 all_zip {A} {B} P Q (x ∷ xs) (y ∷ ys) h k = All-cons (λ (p : A × B). P p.0 × Q p.1) (x, y) (zip xs ys) (All-head P x xs h, All-head Q y ys k) (all_zip P Q xs ys (All-tail P x xs h) (All-tail Q y ys k))
 
-all_of : {A : Type 0} (P : A → Type 0) → ((a : A) → P a) → (xs : List A) → All P xs
+pub all_of : {A : Type 0} (P : A → Type 0) → ((a : A) → P a) → (xs : List A) → All P xs
 all_of P h xs k d lt = h _
 
 module _ (f : Facts) (P : Content → Type 0) (kept : IsKept f P) where

@@ -6,3 +6,4 @@ pub mod Lists
 pub mod Converting
 pub mod Numbering
 pub mod Given
+pub mod Monotone
