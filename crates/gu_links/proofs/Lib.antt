@@ -7,3 +7,4 @@ pub mod Converting
 pub mod Numbering
 pub mod Given
 pub mod Monotone
+pub mod Rounds
