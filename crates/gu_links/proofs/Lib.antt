@@ -8,3 +8,4 @@ pub mod Numbering
 pub mod Given
 pub mod Monotone
 pub mod Rounds
+pub mod Climbing

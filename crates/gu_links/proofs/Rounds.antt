@@ -34,20 +34,20 @@ all_pieces Q g [] q = All-nil (λ a. All Q (g a))
 all_pieces Q g (a ∷ xs) q = All-cons (λ a. All Q (g a)) a xs (all_front Q (g a) (flat_map g xs) q) (all_pieces Q g xs (all_back Q (g a) (flat_map g xs) q))
 
 -- what is asked for at a cell
-pick : ℕ → Asked → Content
+unfoldable pub pick : ℕ → Asked → Content
 pick c asked = cond (eqb asked.0 c) asked.1 Empty
 
 -- the contents after all is joined in that is asked for
-raise : Facts → List Asked → Contents → Contents
+unfoldable pub raise : Facts → List Asked → Contents → Contents
 raise f [] x c = x c
 raise f (p ∷ ps) x c = join f (pick c p) (raise f ps x c)
 
 -- all that the links ask for
-all_given : Facts → List Link → Contents → List Asked
+unfoldable pub all_given : Facts → List Link → Contents → List Asked
 all_given f links x = flat_map (λ link. gives f links link x) links
 
 -- the ranks of the first cells, so many
-ranks : ℕ → Contents → ℕ
+unfoldable pub ranks : ℕ → Contents → ℕ
 ranks zero x = 0
 ranks (suc n) x = rank (x n) + ranks n x
 
@@ -56,7 +56,7 @@ module _ (f : Facts) (P : Content → Type 0) (kept : IsKept f P) where
   pick_kept true a p = p
   pick_kept false a p = kept.empty_is
 
-  raise_kept : (ps : List Asked) (x : Contents) → ((c : ℕ) → P (x c)) → All (λ (asked : Asked). P asked.1) ps → (c : ℕ) → P (raise f ps x c)
+  pub raise_kept : (ps : List Asked) (x : Contents) → ((c : ℕ) → P (x c)) → All (λ (asked : Asked). P asked.1) ps → (c : ℕ) → P (raise f ps x c)
   unfolding raise pick
   raise_kept [] x h hs c = h c
   raise_kept (p ∷ ps) x h hs c = kept.join_is (cond (eqb p.0 c) p.1 Empty) (raise f ps x c) (pick_kept (eqb p.0 c) p.1 (All-head (λ (asked : Asked). P asked.1) p ps hs)) (raise_kept ps x h (All-tail (λ (asked : Asked). P asked.1) p ps hs) c)
@@ -65,7 +65,7 @@ module _ (f : Facts) (lattice : ContentsAreALattice f) (answers : AnswersBelong 
   abbrev HasContent : Asked → Type 0
   HasContent asked = Belongs f asked.1
 
-  raise_belongs : (ps : List Asked) (x : Contents) → AllBelong f x → All HasContent ps → AllBelong f (raise f ps x)
+  pub raise_belongs : (ps : List Asked) (x : Contents) → AllBelong f x → All HasContent ps → AllBelong f (raise f ps x)
   raise_belongs ps x hx hs = record { at = raise_kept f (Belongs f) (belonging_is_kept f lattice answers) ps x hx.at hs }
 
   picked : (c : ℕ) (p : Asked) → Belongs f p.1 → Belongs f (pick c p)
@@ -75,7 +75,7 @@ module _ (f : Facts) (lattice : ContentsAreALattice f) (answers : AnswersBelong 
   pub below_trans : (x y z : Contents) → AllBelong f x → AllBelong f y → AllBelong f z → IsBelow f x y → IsBelow f y z → IsBelow f x z
   below_trans x y z hx hy hz p q = record { at = λ c. lattice.order.transitive (x c) (y c) (z c) (hx.at c) (hy.at c) (hz.at c) (p.at c) (q.at c) }
 
-  raise_up : (ps : List Asked) (x : Contents) → AllBelong f x → All HasContent ps → IsBelow f x (raise f ps x)
+  pub raise_up : (ps : List Asked) (x : Contents) → AllBelong f x → All HasContent ps → IsBelow f x (raise f ps x)
   unfolding raise
   raise_up [] x hx hs = record { at = λ c. lattice.order.reflexive (x c) }
   raise_up (p ∷ ps) x hx hs =
@@ -90,7 +90,7 @@ module _ (f : Facts) (lattice : ContentsAreALattice f) (answers : AnswersBelong 
   pick_least true a y h = h refl
   pick_least false a y h = lattice.order.least y
 
-  raise_least : (ps : List Asked) (x y : Contents) → AllBelong f x → AllBelong f y → All HasContent ps → IsBelow f x y → All (IsMet f y) ps → IsBelow f (raise f ps x) y
+  pub raise_least : (ps : List Asked) (x y : Contents) → AllBelong f x → AllBelong f y → All HasContent ps → IsBelow f x y → All (IsMet f y) ps → IsBelow f (raise f ps x) y
   unfolding raise pick
   raise_least [] x y hx hy hs below met = below
   raise_least (p ∷ ps) x y hx hy hs below met =
@@ -105,7 +105,7 @@ module _ (f : Facts) (lattice : ContentsAreALattice f) (answers : AnswersBelong 
   met_up ps x y hx hy hs below met k d lt =
       let p = get_or ps k d in lattice.order.transitive p.1 (x p.0) (y p.0) (hs k d lt) (hx.at p.0) (hy.at p.0) (met k d lt) (below.at p.0)
 
-  raise_met : (ps : List Asked) (x : Contents) → AllBelong f x → All HasContent ps → All (IsMet f (raise f ps x)) ps
+  pub raise_met : (ps : List Asked) (x : Contents) → AllBelong f x → All HasContent ps → All (IsMet f (raise f ps x)) ps
   unfolding raise pick
   raise_met [] x hx hs = All-nil (IsMet f x)
   raise_met (p ∷ ps) x hx hs =
@@ -117,7 +117,7 @@ module _ (f : Facts) (lattice : ContentsAreALattice f) (answers : AnswersBelong 
       (met_up ps r (raise f (p ∷ ps) x) hr (raise_belongs (p ∷ ps) x hx hs) rest up (raise_met ps x hx rest))
 
   -- behind the cells of a system nothing is raised
-  raise_beyond : (count : ℕ) (ps : List Asked) (x : Contents) → All (λ (asked : Asked). asked.0 < count) ps → (c : ℕ) → count ≤ c → x c ≡ Empty → raise f ps x c ≡ Empty
+  pub raise_beyond : (count : ℕ) (ps : List Asked) (x : Contents) → All (λ (asked : Asked). asked.0 < count) ps → (c : ℕ) → count ≤ c → x c ≡ Empty → raise f ps x c ≡ Empty
   unfolding raise pick join
   raise_beyond count [] x h c far e = e
   raise_beyond count (p ∷ ps) x h c far e =
@@ -140,12 +140,12 @@ module _ (f : Facts) (lattice : ContentsAreALattice f) (answers : AnswersBelong 
   ranks_le zero x y hx hy h = omega arith
   ranks_le (suc n) x y hx hy h = omega (arith, rank_le (x n) (y n) (hx.at n) (hy.at n) (h.at n), ranks_le n x y hx hy h)
 
-  ranks_most : (n : ℕ) (x : Contents) → AllBelong f x → ranks n x ≤ 70 * n
+  pub ranks_most : (n : ℕ) (x : Contents) → AllBelong f x → ranks n x ≤ 70 * n
   unfolding ranks
   ranks_most zero x hx = omega arith
   ranks_most (suc n) x hx = omega (arith, lattice.ranks.most (x n) (hx.at n), ranks_most n x hx)
 
-  stays_or_up : (n : ℕ) (x y : Contents) → AllBelong f x → AllBelong f y → IsBelow f x y → ((c : ℕ) → c < n → x c ≡ y c) ⊎ (ranks n x < ranks n y)
+  pub stays_or_up : (n : ℕ) (x y : Contents) → AllBelong f x → AllBelong f y → IsBelow f x y → ((c : ℕ) → c < n → x c ≡ y c) ⊎ (ranks n x < ranks n y)
   unfolding ranks
   stays_or_up zero x y hx hy h = inl (λ c lt. absurd (omega arith))
   stays_or_up (suc n) x y hx hy h = ⊎_elim
