@@ -9,3 +9,4 @@ pub mod Given
 pub mod Monotone
 pub mod Rounds
 pub mod Climbing
+pub mod Reached
