@@ -1,5 +1,5 @@
 -- The first heap type on a line that another is a subtype of is the least common supertype.
-use Rattle.std.proofs.Common.{◌≡◌, ℕ, zero, suc, ◌+◌, ◌<◌, Bool, true, false, cond, List, [], ◌∷◌, map, length, slice_get, Option, Some, None, option_map, is_some, MatchOption, find, refl, ap, sym, ◌∙◌, subst, arith, true≢false}
+use Rattle.std.proofs.Common.{◌≡◌, ℕ, zero, suc, ◌+◌, ◌<◌, Bool, true, false, cond, List, [], ◌∷◌, map, length, slice_get, Option, Some, None, option_map, is_some, IfSome, MatchOption, find, refl, ap, sym, ◌∙◌, subst, arith, true≢false}
 use Rattle.gu_types.specs.declared.types.Abs.{Abs}
 use Rattle.gu_types.specs.declared.types.Abs.TheVariants as A
 use Rattle.gu_types.specs.declared.types.HeapType.{HeapType}
@@ -146,9 +146,9 @@ same_one list (H.Idx i) (H.Abs l) p q e = absurd e
 same_one list (H.Idx i) (H.Idx j) p q e = let x = p j e in let y = q i (same_back list i j e) in ap H.Idx (omega arith)
 
 -- how far one heap type stands above another
-record Far (list : TypeList) (above below : HeapType) : Type 0 where
-  edges : ℕ
-  is : distance list above below ≡ Some edges
+pub record Far (list : TypeList) (above below : HeapType) : Type 0 where
+  pub edges : ℕ
+  pub is : distance list above below ≡ Some edges
 
 pub common_exact : CommonIsExact
 unfolding common
@@ -179,7 +179,7 @@ pub record Above (list : TypeList) (a b c : HeapType) : Type 0 where
   pub no_bottom : IsNoBottom c
   pub least : IsLeastIndex list c
 
-sub_far : (list : TypeList) → IndicesHold list → (a c : HeapType) → IsNoBottom a → IsSub list a c → Far list c a
+pub sub_far : (list : TypeList) → IndicesHold list → (a c : HeapType) → IsNoBottom a → IsSub list a c → Far list c a
 sub_far list hold a c n p = by_distance (distance list c a) refl
   where
     by_distance : (o : Option ℕ) → distance list c a ≡ o → Far list c a
@@ -200,3 +200,12 @@ common_above list hold a b c h k e =
       no_bottom = above_no_bottom list hold a c x.edges h.no_bottom x.is;
       least = w.least_index;
     }
+
+-- a least common supertype is one of the module's types, and no bottom
+pub common_range : (list : TypeList) → IndicesHold list → (a b : HeapType) → IsHead list a → (o : Option HeapType) → MatchOption o (HaveNoCommon list a b) (IsLeastCommon list a b) → IfSome o (IsHeapOf list)
+common_range list hold a b h None w = tt
+common_range list hold a b h (Some c) w = let x = sub_far list hold a c h.no_bottom w.above_first in above_in_range list a c x.edges h.is_heap x.is
+
+pub common_no_bottom : (list : TypeList) → IndicesHold list → (a b : HeapType) → IsHead list a → (o : Option HeapType) → MatchOption o (HaveNoCommon list a b) (IsLeastCommon list a b) → IfSome o IsNoBottom
+common_no_bottom list hold a b h None w = tt
+common_no_bottom list hold a b h (Some c) w = let x = sub_far list hold a c h.no_bottom w.above_first in above_no_bottom list hold a c x.edges h.no_bottom x.is
