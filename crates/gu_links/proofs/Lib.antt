@@ -10,3 +10,4 @@ pub mod Monotone
 pub mod Rounds
 pub mod Climbing
 pub mod Reached
+pub mod Lattice
