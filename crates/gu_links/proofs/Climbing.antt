@@ -1,23 +1,21 @@
 -- The least solution exists, and there is no other.
-use Rattle.std.proofs.Common.{◌≡◌, ◌≢◌, ◌⊎◌, ℕ, zero, suc, ◌+◌, ◌-◌, ◌*◌, ◌<◌, ◌≤◌, List, [], ◌∷◌, map, length, get_or, sym, refl, ap, ◌∙◌, subst, inl, inr, ⊎_elim, arith}
-use Rattle.std.specs.Prelude.{All, flat_map, Contains, nat_eq}
+use Rattle.std.proofs.Common.{◌≡◌, ℕ, zero, suc, ◌+◌, ◌*◌, ◌<◌, ◌≤◌, List, map, sym, refl, ◌∙◌, subst, ⊎_elim, arith}
+use Rattle.std.specs.Prelude.{All}
 use Rattle.std.specs.List.{range_with_len}
 use Rattle.std.proofs.lemmas.Bool.{cases_lt}
-use Rattle.std.proofs.lemmas.List.Elements.{All-head, All-tail, All-cons, All-nil, All-map, All-contains}
+use Rattle.std.proofs.lemmas.List.Elements.{All-map}
 use Rattle.std.proofs.lemmas.List.FromFn.{get_or-map-range_with_len, length-map-range_with_len}
 use Rattle.std.proofs.lemmas.List.{get_or_past}
 use Rattle.gu_contents.specs.declared.content.Content.{Content}
 use Rattle.gu_contents.specs.declared.content.Content.TheVariants.{Empty}
 use Rattle.gu_contents.specs.declared.facts.Facts.{Facts}
-use Rattle.gu_contents.specs.Order.{AtMost}
-use Rattle.gu_contents.specs.Join.{join}
 use Rattle.gu_contents.specs.Belongs.{Belongs, IsListed}
 use Rattle.gu_contents.specs.Laws.{ContentsAreALattice, AnswersBelong, AnswersAreListed}
 use Rattle.gu_links.specs.declared.link.Link.{Link}
 use Rattle.gu_links.specs.Gives.{Contents, Asked, gives}
 use Rattle.gu_links.specs.Solutions.{at, AllBelong, IsBelow, IsMet, IsClosed, Solves, IsUnderAll, Least, IsOf, Fits, IsSystem}
 use Rattle.gu_links.specs.Laws.{SomeLeast}
-use Rattle.gu_links.proofs.Given.{IsKept, belonging_is_kept, listed_is_kept, gives_proper, all_of}
+use Rattle.gu_links.proofs.Given.{belonging_is_kept, listed_is_kept, gives_proper, all_of}
 use Rattle.gu_links.proofs.Monotone.{gives_down}
 use Rattle.gu_links.proofs.Rounds.{same_contents, all_flat, all_pieces, raise, all_given, ranks, raise_kept, raise_belongs, raise_up, raise_least, raise_met, raise_beyond, ranks_most, stays_or_up}
 

@@ -1,20 +1,17 @@
 -- What is left of a content without null, and what conversions make of it: more of more.
-use Rattle.std.proofs.Common.{◌≡◌, ◌≢◌, ◌⊎◌, ℕ, ◌+◌, ◌<◌, ◌≤◌, ◌&&◌, ◌||◌, not, Bool, true, false, List, sym, refl, ap, ◌∙◌, subst, inl, inr, ⊎_elim, arith}
+use Rattle.std.proofs.Common.{◌≡◌, ◌≢◌, ◌⊎◌, ℕ, ◌||◌, not, Bool, true, false, List, sym, refl, subst, inl, inr, ⊎_elim, arith}
 use Rattle.std.proofs.lemmas.Bool.{and_parts, and_from}
 use Rattle.gu_types.specs.declared.types.Abs.TheVariants as A
-use Rattle.gu_types.specs.declared.types.HeapType.{HeapType}
 use Rattle.gu_types.specs.declared.types.HeapType.TheVariants as H
-use Rattle.gu_rec.specs.Sub.{height}
 use Rattle.gu_contents.specs.declared.content.Core.{Core}
 use Rattle.gu_contents.specs.declared.content.Core.TheVariants.{Bottom, Func, Global, Cone}
 use Rattle.gu_contents.specs.declared.content.Content.{Content}
 use Rattle.gu_contents.specs.declared.content.Content.TheVariants.{Empty, I32, I64, NumGlobal, Many, Ref, Top}
 use Rattle.gu_contents.specs.declared.facts.Facts.{Facts}
-use Rattle.gu_contents.specs.Contents.{refs, bound}
+use Rattle.gu_contents.specs.Contents.{refs}
 use Rattle.gu_contents.specs.Order.{AtMost, at_most, core_at_most, cone_at_most}
 use Rattle.gu_contents.specs.Whole.{whole}
-use Rattle.gu_contents.specs.Meets.{has_null}
-use Rattle.gu_contents.specs.Belongs.{Belongs, CoreBelongs, IsCone, IsListed}
+use Rattle.gu_contents.specs.Belongs.{Belongs, CoreBelongs, IsListed}
 use Rattle.gu_contents.specs.Laws.{ContentsAreALattice, AnswersBelong}
 use Rattle.gu_links.specs.Gives.{non_null, converted, internalised, externalised}
 use Rattle.gu_links.proofs.Covering.{core_refl}

@@ -1,21 +1,19 @@
 -- A greater content covers no fewer types and functions.
-use Rattle.std.proofs.Common.{◌≡◌, ℕ, ◌+◌, ◌<◌, ◌≤◌, ◌&&◌, Bool, true, false, length, sym, refl, ap, ◌∙◌, subst, arith}
-use Rattle.std.specs.Prelude.{slice_index, nat_eq}
+use Rattle.std.proofs.Common.{◌≡◌, ℕ, ◌<◌, ◌≤◌, true, length, sym, refl, ◌∙◌, subst, arith}
+use Rattle.std.specs.Prelude.{slice_index}
 use Rattle.std.proofs.lemmas.Bool.{and_parts, and_from, eqb-true, eq-eqb}
-use Rattle.gu_types.specs.declared.types.HeapType.{HeapType}
 use Rattle.gu_types.specs.declared.types.HeapType.TheVariants as H
 use Rattle.gu_types.specs.Depth.{types_of}
-use Rattle.gu_rec.specs.Closed.{SameType}
-use Rattle.gu_rec.specs.Sub.{IsHeapOf, IsLeastIndex, is_sub}
+use Rattle.gu_rec.specs.Sub.{IsLeastIndex, is_sub}
 use Rattle.gu_contents.specs.declared.content.Core.{Core}
 use Rattle.gu_contents.specs.declared.content.Core.TheVariants.{Bottom, Func, Global, Cone}
 use Rattle.gu_contents.specs.declared.content.Content.{Content}
 use Rattle.gu_contents.specs.declared.content.Content.TheVariants.{Empty, I32, I64, NumGlobal, Many, Ref, Top}
 use Rattle.gu_contents.specs.declared.facts.Facts.{Facts}
-use Rattle.gu_contents.specs.Contents.{least_of, least_index, bound, cone_of, type_of_func}
+use Rattle.gu_contents.specs.Contents.{least_of, bound, cone_of, type_of_func}
 use Rattle.gu_contents.specs.Order.{AtMost, at_most, core_at_most, cone_at_most}
 use Rattle.gu_contents.specs.Meets.{filter}
-use Rattle.gu_contents.specs.Belongs.{Belongs, CoreBelongs, IsCone, IsFunc, IsBounded}
+use Rattle.gu_contents.specs.Belongs.{Belongs, CoreBelongs, IsCone, IsFunc}
 use Rattle.gu_contents.specs.Laws.{ContentsAreALattice, AnswersBelong}
 use Rattle.gu_contents.proofs.Heights.{least_least, least_heap, least_in_range}
 use Rattle.gu_links.specs.Cells.{is_least}

@@ -1,8 +1,8 @@
 -- What a link asks for stays in the system: its cells are the system's, and what holds of all contents holds of the
 -- contents that it asks for.
-use Rattle.std.proofs.Common.{◌≡◌, ℕ, zero, suc, ◌+◌, ◌<◌, ◌≤◌, ◌&&◌, ◌||◌, ◌⊎◌, Bool, true, false, List, [], ◌∷◌, ◌++◌, map, length, sym, refl, ap, ◌∙◌, subst, ⊎_elim, arith}
-use Rattle.std.specs.Prelude.{All, flat_map, zip, fold, slice_index, nat_eq}
-use Rattle.std.specs.List.{filter as keep, list_any}
+use Rattle.std.proofs.Common.{◌≡◌, ℕ, ◌<◌, ◌&&◌, Bool, true, List, [], ◌∷◌, map, length, subst, ⊎_elim, arith}
+use Rattle.std.specs.Prelude.{All, flat_map, zip, fold}
+use Rattle.std.specs.List.{list_any}
 use Rattle.std.proofs.lemmas.Bool.{and_parts, or_cases, eqb-true}
 use Rattle.std.proofs.lemmas.List.Elements.{All-head, All-tail, All-cons, All-nil, All-append, All-map}
 use Rattle.gu_types.specs.declared.types.RefType.{RefType}
@@ -20,12 +20,12 @@ use Rattle.gu_contents.specs.Belongs.{Belongs, IsListed, IsFunc}
 use Rattle.gu_contents.specs.Laws.{ContentsAreALattice, AnswersBelong, AnswersAreListed}
 use Rattle.gu_links.specs.declared.link.Link.{Link}
 use Rattle.gu_links.specs.declared.link.Link.TheVariants as L
-use Rattle.gu_links.specs.Cells.{slot_cell, param_cell, out_cell, param_cells, out_cells, own_cells, is_least, params_of, results_of}
+use Rattle.gu_links.specs.Cells.{slot_cell, param_cell, param_cells, out_cells, is_least, params_of}
 use Rattle.gu_links.specs.Over.{over, is_over, has_slot, callees, is_callee, names}
 use Rattle.gu_links.specs.Gives.{Contents, Asked, gives, non_null, internalised, externalised, slot_of, joined, into_slots, call}
 use Rattle.gu_links.specs.Solutions.{Fits, IsSystem, IsOf}
 use Rattle.gu_links.proofs.Lists.{run_below, all_map_kept_from, all_kept_from}
-use Rattle.gu_links.proofs.Numbering.{slot_within, param_within, out_within}
+use Rattle.gu_links.proofs.Numbering.{slot_within, param_within}
 use Rattle.gu_links.proofs.Converting.{non_null_belongs, non_null_listed, internalised_belongs, internalised_listed, externalised_belongs, externalised_listed}
 
 -- what holds of contents holds of all that is made of them
@@ -94,6 +94,7 @@ named_link f longs count g (L.SlotCopy target to_ty source from_ty) fit e = cc
 named_link f longs count g (L.CallBy callee ty operands results) fit e = cc
 named_link f longs count g (L.Internalise from to) fit e = cc
 named_link f longs count g (L.Externalise from to) fit e = cc
+
 pub named_func : (f : Facts) (longs : List ℕ) (count g : ℕ) (links : List Link) → All (Fits f longs count) links → list_any (names g) links ≡ true → IsFunc f g
 named_func f longs count g [] fits e = cc
 named_func f longs count g (link ∷ links) fits e = ⊎_elim

@@ -1,5 +1,4 @@
 -- The contents are a lattice, for all facts.
-use Rattle.std.proofs.Common.{ℕ}
 use Rattle.gu_contents.specs.declared.facts.Facts.{Facts}
 use Rattle.gu_contents.specs.Laws.{OperationsAreMonotone, ContentsAreALattice}
 use Rattle.gu_contents.specs.Meets.{filter, minus, test, is_null, equal}

@@ -1,17 +1,17 @@
 -- A link rests on what it reads alone.
-use Rattle.std.proofs.Common.{◌≡◌, ℕ, ◌+◌, ◌<◌, List, [], ◌∷◌, ◌++◌, map, sym, refl, ap, ◌∙◌, subst}
-use Rattle.std.specs.Prelude.{All, flat_map, zip, fold}
+use Rattle.std.proofs.Common.{◌≡◌, ℕ, List, [], ◌∷◌, ◌++◌, map, sym, refl, ap, ◌∙◌, subst}
+use Rattle.std.specs.Prelude.{flat_map, fold}
 use Rattle.gu_contents.specs.declared.content.Content.{Content}
 use Rattle.gu_contents.specs.declared.content.Content.TheVariants.{Empty}
 use Rattle.gu_contents.specs.declared.facts.Facts.{Facts}
 use Rattle.gu_contents.specs.Join.{join}
-use Rattle.gu_contents.specs.Meets.{filter, minus, test, is_null, equal}
+use Rattle.gu_contents.specs.Meets.{filter, minus, test, is_null}
 use Rattle.gu_contents.specs.Numbers.{pack, extend}
 use Rattle.gu_links.specs.declared.link.Link.{Link}
 use Rattle.gu_links.specs.declared.link.Link.TheVariants as L
-use Rattle.gu_links.specs.Cells.{slot_cell, param_cells, out_cells}
+use Rattle.gu_links.specs.Cells.{slot_cell, out_cells}
 use Rattle.gu_links.specs.Over.{over, callees}
-use Rattle.gu_links.specs.Gives.{Contents, Asked, gives, reads, non_null, internalised, externalised, slot_of, joined, into_slots, call}
+use Rattle.gu_links.specs.Gives.{Contents, gives, reads, non_null, internalised, externalised, slot_of, joined, into_slots, call}
 use Rattle.gu_links.specs.Laws.{Agree, IsSameOn}
 use Rattle.gu_links.proofs.Agreeing.{first, rest, front, back, map_same, cells_same, flat_same}
 
@@ -52,7 +52,7 @@ module _ (f : Facts) (links : List Link) (x y : Contents) where
   same_on (L.SlotSet object ty slot storage from) h = record {
     reads_are = refl;
     gives_are = let e = first x y object (from ∷ []) h in let d = first x y from [] (rest x y object (from ∷ []) h) in
-    ap (λ a. into_slots f slot (pack storage a) (over f (x object) ty slot)) d ∙ ap (λ a. into_slots f slot (pack storage (y from)) (over f a ty slot)) e;
+        ap (λ a. into_slots f slot (pack storage a) (over f (x object) ty slot)) d ∙ ap (λ a. into_slots f slot (pack storage (y from)) (over f a ty slot)) e;
   }
   same_on (L.SlotFill object ty slot give) h = record {
     reads_are = refl;
@@ -68,8 +68,8 @@ module _ (f : Facts) (links : List Link) (x y : Contents) where
       record {
         reads_are = ap (λ a. target ∷ source ∷ map (λ s. slot_cell f s 0) (over f a from_ty 0)) e;
         gives_are = ap (λ held. into_slots f 0 (fold (join f) Empty held) (over f (x target) to_ty 0)) es
-        ∙ (ap (λ a. into_slots f 0 (joined f y (over f a from_ty 0)) (over f (x target) to_ty 0)) e
-        ∙ ap (λ a. into_slots f 0 (joined f y (over f (y source) from_ty 0)) (over f a to_ty 0)) t);
+            ∙ (ap (λ a. into_slots f 0 (joined f y (over f a from_ty 0)) (over f (x target) to_ty 0)) e
+            ∙ ap (λ a. into_slots f 0 (joined f y (over f (y source) from_ty 0)) (over f a to_ty 0)) t);
       }
   same_on (L.CallBy callee ty operands results) h =
       let gs = callees f links (x callee) ty in

@@ -1,10 +1,9 @@
 -- Where cells have more, a link asks for no less.
-use Rattle.std.proofs.Common.{◌≡◌, ℕ, zero, suc, ◌+◌, ◌<◌, ◌≤◌, ◌&&◌, Bool, true, false, List, [], ◌∷◌, ◌++◌, map, length, sym, refl, ap, ◌∙◌, subst, arith}
+use Rattle.std.proofs.Common.{◌≡◌, ℕ, ◌<◌, ◌&&◌, Bool, true, List, [], ◌∷◌, map, length, arith}
 use Rattle.std.specs.Prelude.{All, flat_map, zip, fold}
 use Rattle.std.specs.List.{list_any}
 use Rattle.std.proofs.lemmas.Bool.{and_parts, and_from}
 use Rattle.std.proofs.lemmas.List.Elements.{All-head, All-tail, All-cons, All-nil, All-append, All-map}
-use Rattle.gu_types.specs.declared.types.RefType.{RefType}
 use Rattle.gu_types.specs.declared.types.Storage.{Storage}
 use Rattle.gu_types.specs.Depth.{types_of}
 use Rattle.gu_rec.specs.Keys.{run}
@@ -21,12 +20,12 @@ use Rattle.gu_links.specs.declared.link.Link.{Link}
 use Rattle.gu_links.specs.declared.link.Link.TheVariants as L
 use Rattle.gu_links.specs.Cells.{slot_cell, param_cells, out_cells}
 use Rattle.gu_links.specs.Over.{over, is_over, has_slot, callees, is_callee, names}
-use Rattle.gu_links.specs.Gives.{Contents, Asked, gives, non_null, internalised, externalised, slot_of, joined, into_slots, call}
+use Rattle.gu_links.specs.Gives.{Contents, gives, non_null, internalised, externalised, slot_of, joined, into_slots, call}
 use Rattle.gu_links.specs.Solutions.{Fits, IsSystem, AllBelong, IsBelow, IsMet}
 use Rattle.gu_links.proofs.Lists.{run_below, all_map_kept, all_kept, all_front, all_back}
 use Rattle.gu_links.proofs.Covering.{over_up, callee_up}
 use Rattle.gu_links.proofs.Converting.{non_null_up, non_null_belongs, internalised_up, internalised_belongs, externalised_up, externalised_belongs}
-use Rattle.gu_links.proofs.Given.{named_func, fold_kept, joined_kept, belonging_is_kept, all_of}
+use Rattle.gu_links.proofs.Given.{named_func, fold_kept, belonging_is_kept, all_of}
 
 -- the join of a list is the least content that is at least each of it
 module _ (f : Facts) (lattice : ContentsAreALattice f) (answers : AnswersBelong f) where
@@ -91,10 +90,11 @@ module _ (f : Facts) (lattice : ContentsAreALattice f) (answers : AnswersBelong 
         all_map_kept IsIn (λ s. has_slot f slot s && is_over f (x object) ty s) (λ s. has_slot f slot s && is_over f (y object) ty s) (IsMet f y) (IsMet f y)
         (λ s. (to, extend storage signed (slot_of f x slot s))) (λ s. (to, extend storage signed (slot_of f y slot s)))
         (λ s lt e.
-        let c = slot_cell f s slot in
-        (slot_up object ty slot s in_range lt e,
-        down to (extend storage signed (x c)) (extend storage signed (y c)) (answers.extend_does storage signed (x c) (hx.at c)) (answers.extend_does storage signed (y c) (hy.at c))
-        (lattice.monotone.extend_is storage signed (x c) (y c) (hx.at c) (hy.at c) (below.at c))))
+        let c = slot_cell f s slot in (
+          slot_up object ty slot s in_range lt e,
+          down to (extend storage signed (x c)) (extend storage signed (y c)) (answers.extend_does storage signed (x c) (hx.at c)) (answers.extend_does storage signed (y c) (hy.at c))
+              (lattice.monotone.extend_is storage signed (x c) (y c) (hx.at c) (hy.at c) (below.at c)),
+        ))
         (run 0 (length (types_of f.types))) in_run met
 
     -- the elements of more arrays, joined
@@ -136,10 +136,11 @@ module _ (f : Facts) (lattice : ContentsAreALattice f) (answers : AnswersBelong 
     calls_down callee ty operands results in_range met =
         all_kept (λ (g : ℕ). Unit {0}) (λ g. list_any (names g) links && is_callee f (x callee) ty g) (λ g. list_any (names g) links && is_callee f (y callee) ty g) (IsMet f y) (IsMet f y)
         (call f operands results x) (call f operands results y)
-        (λ g u e. let p = and_parts (list_any (names g) links) (is_callee f (x callee) ty g) e in
-        (and_from (list_any (names g) links) (is_callee f (y callee) ty g) p.0
-        (callee_up f lattice answers (x callee) (y callee) ty g in_range (named_func f longs count g links system.fit p.0) (hx.at callee) (hy.at callee) (below.at callee) p.1),
-        call_down operands results g))
+        (λ g u e. let p = and_parts (list_any (names g) links) (is_callee f (x callee) ty g) e in (
+          and_from (list_any (names g) links) (is_callee f (y callee) ty g) p.0
+              (callee_up f lattice answers (x callee) (y callee) ty g in_range (named_func f longs count g links system.fit p.0) (hx.at callee) (hy.at callee) (below.at callee) p.1),
+          call_down operands results g,
+        ))
         (run 0 (length f.funcs)) (λ k d h. tt) met
 
     pub gives_down : (link : Link) → Fits f longs count link → All (IsMet f y) (gives f links link y) → All (IsMet f y) (gives f links link x)

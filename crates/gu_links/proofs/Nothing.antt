@@ -1,25 +1,25 @@
 -- Of nothing a link makes nothing.
-use Rattle.std.proofs.Common.{◌≡◌, ℕ, ◌+◌, ◌<◌, ◌&&◌, Bool, false, List, [], ◌∷◌, ◌++◌, map, length, sym, refl, ap, ◌∙◌, subst}
-use Rattle.std.specs.Prelude.{All, flat_map, zip, fold, nat_lt, slice_index}
+use Rattle.std.proofs.Common.{◌≡◌, ℕ, ◌&&◌, Bool, false, List, [], ◌∷◌, ◌++◌, map, length, sym, refl, ap, ◌∙◌, subst}
+use Rattle.std.specs.Prelude.{All, flat_map, slice_index}
 use Rattle.std.specs.List.{filter as keep, list_any}
 use Rattle.gu_types.specs.Depth.{types_of}
 use Rattle.gu_types.specs.declared.types.HeapType.TheVariants as H
 use Rattle.gu_rec.specs.Keys.{run}
 use Rattle.gu_rec.specs.Sub.{is_sub}
 use Rattle.std.proofs.lemmas.Bool.{and_right}
-use Rattle.std.proofs.lemmas.List.Elements.{All-head, All-tail, All-cons, All-nil}
+use Rattle.std.proofs.lemmas.List.Elements.{All-head, All-cons, All-nil}
 use Rattle.gu_contents.specs.declared.content.Content.{Content}
 use Rattle.gu_contents.specs.declared.content.Content.TheVariants.{Empty}
 use Rattle.gu_contents.specs.declared.facts.Facts.{Facts}
 use Rattle.gu_contents.specs.Meets.{filter, minus, test, is_null, equal}
-use Rattle.gu_contents.specs.Numbers.{pack, extend}
+use Rattle.gu_contents.specs.Numbers.{pack}
 use Rattle.gu_types.specs.declared.types.Storage.{Storage}
 use Rattle.gu_types.specs.declared.types.Storage.TheVariants as S
 use Rattle.gu_links.specs.declared.link.Link.{Link}
 use Rattle.gu_links.specs.declared.link.Link.TheVariants as L
 use Rattle.gu_links.specs.Cells.{slot_cell, out_cells, is_least}
 use Rattle.gu_links.specs.Over.{over, callees, is_over, is_callee, has_slot, names}
-use Rattle.gu_links.specs.Gives.{Contents, Asked, gives, reads, IsRoot, non_null, internalised, externalised, joined, into_slots, call}
+use Rattle.gu_links.specs.Gives.{Contents, Asked, gives, reads, IsRoot, non_null, internalised, externalised, into_slots, call}
 
 none_kept : {A : Type 0} (p : A → Bool) (xs : List A) → ((x : A) → p x ≡ false) → keep p xs ≡ []
 none_kept p [] h = refl

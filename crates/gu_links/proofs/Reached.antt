@@ -1,10 +1,9 @@
 -- What events lead to is at most every solution.
-use Rattle.std.proofs.Common.{◌≡◌, ◌⊎◌, ℕ, ◌+◌, ◌<◌, ◌≤◌, Bool, true, false, cond, eqb, List, [], ◌∷◌, map, length, get_or, sym, refl, ap, ◌∙◌, subst, inl, inr, ⊎_elim, arith}
-use Rattle.std.specs.Prelude.{All, Contains, ◌↔◌, nat_eq}
+use Rattle.std.proofs.Common.{◌≡◌, ℕ, ◌<◌, true, false, eqb, List, get_or, subst, ⊎_elim}
+use Rattle.std.specs.Prelude.{◌↔◌}
 use Rattle.std.proofs.lemmas.Bool.{eqb-true, cond_both, cases_Bool, both_ways}
 use Rattle.std.proofs.lemmas.List.Elements.{All-contains, Contains-get_or}
 use Rattle.gu_contents.specs.declared.content.Content.{Content}
-use Rattle.gu_contents.specs.declared.content.Content.TheVariants.{Empty}
 use Rattle.gu_contents.specs.declared.facts.Facts.{Facts}
 use Rattle.gu_contents.specs.Order.{AtMost, at_most}
 use Rattle.gu_contents.specs.Join.{join}
@@ -23,10 +22,10 @@ closed_is_not_open f links link x = (
   λ (c : IsClosed f links link x) (o : IsOpen f links link x). o.unmet (All-contains (IsMet f x) (gives f links link x) o.asked c.met o.given),
   λ (h : IsOpen f links link x → ⊥). record {
     met = λ k d lt.
-    let p = get_or (gives f links link x) k d in
-    ⊎_elim (λ (e : at_most f p.1 (x p.0) ≡ true). record { holds = e })
-    (λ (e : at_most f p.1 (x p.0) ≡ false). absurd (h (record { asked = p; given = Contains-get_or (gives f links link x) k d lt; unmet = λ (m : IsMet f x p). both_ways (at_most f p.1 (x p.0)) e m.holds })))
-    (cases_Bool (at_most f p.1 (x p.0)));
+        let p = get_or (gives f links link x) k d in
+        ⊎_elim (λ (e : at_most f p.1 (x p.0) ≡ true). record { holds = e })
+        (λ (e : at_most f p.1 (x p.0) ≡ false). absurd (h (record { asked = p; given = Contains-get_or (gives f links link x) k d lt; unmet = λ (m : IsMet f x p). both_ways (at_most f p.1 (x p.0)) e m.holds })))
+        (cases_Bool (at_most f p.1 (x p.0)));
   },
 )
 
@@ -56,7 +55,7 @@ module _ (f : Facts) (lattice : ContentsAreALattice f) (answers : AnswersBelong 
   pub raised_below : (x y : Contents) (to : ℕ) (a : Content) → AllBelong f x → AllBelong f y → Belongs f a → IsBelow f x y → AtMost f a (y to) → IsBelow f (raised f x to a) y
   raised_below x y to a hx hy ha below le = record {
     at = λ c. cond_both (eqb to c) (join f (x c) a) (x c) (λ b. AtMost f b (y c))
-    (λ e. lattice.joins.least (x c) a (y c) (hx.at c) ha (hy.at c) (below.at c) (subst (λ (d : ℕ). AtMost f a (y d)) (eqb-true to c e) le)) (λ e. below.at c);
+        (λ e. lattice.joins.least (x c) a (y c) (hx.at c) ha (hy.at c) (below.at c) (subst (λ (d : ℕ). AtMost f a (y d)) (eqb-true to c e) le)) (λ e. below.at c);
   }
 
   pub states_belong : (x : Contents) → CoreState f links x → AllBelong f x
@@ -67,10 +66,10 @@ module _ (f : Facts) (lattice : ContentsAreALattice f) (answers : AnswersBelong 
   states_below _ at_first = record { at_most = λ y hy s. record { at = λ c. lattice.order.least (y c) } }
   states_below _ (after x to a s e) = record {
     at_most = λ y hy solves.
-    let hx = states_belong x s in
-    let below = (states_below x s).at_most y hy solves in
-    raised_below x y to a hx hy e.belongs below
-    (lattice.order.transitive a e.whole (y to) e.belongs (given_belongs x to a hx e) (hy.at to) e.part (given_met x y to a hx hy below solves e));
+        let hx = states_belong x s in
+        let below = (states_below x s).at_most y hy solves in
+        raised_below x y to a hx hy e.belongs below
+        (lattice.order.transitive a e.whole (y to) e.belongs (given_belongs x to a hx e) (hy.at to) e.part (given_met x y to a hx hy below solves e));
   }
 
   pub solved_state : (x : Contents) → CoreState f links x → Solves f links x → Least f links x

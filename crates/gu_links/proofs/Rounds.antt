@@ -1,26 +1,21 @@
 -- Joining in all that the links of a system ask for, again and again, ends at the least solution.
-use Rattle.std.proofs.Common.{◌≡◌, ◌≢◌, ◌⊎◌, ℕ, zero, suc, ◌+◌, ◌-◌, ◌*◌, ◌<◌, ◌≤◌, Bool, true, false, cond, eqb, List, [], ◌∷◌, ◌++◌, map, length, get_or, sym, refl, ap, ◌∙◌, subst, inl, inr, ⊎_elim, arith}
-use Rattle.std.specs.Prelude.{All, flat_map, nat_eq}
-use Rattle.std.specs.List.{range_with_len}
-use Rattle.std.proofs.lemmas.Bool.{eqb-true, eq-eqb, ne_eqb, cases_Bool, cases_eq, cases_lt, both_ways}
-use Rattle.std.proofs.lemmas.List.Elements.{All-head, All-tail, All-cons, All-nil, All-append, All-map}
-use Rattle.std.proofs.lemmas.List.FromFn.{get_or-map-range_with_len, length-map-range_with_len}
-use Rattle.std.proofs.lemmas.List.{get_or_past}
+use Rattle.std.proofs.Common.{◌≡◌, ◌⊎◌, ℕ, zero, suc, ◌+◌, ◌*◌, ◌<◌, ◌≤◌, Bool, true, false, cond, eqb, List, [], ◌∷◌, get_or, sym, refl, ap, ◌∙◌, subst, inl, inr, ⊎_elim, arith}
+use Rattle.std.specs.Prelude.{All, flat_map}
+use Rattle.std.proofs.lemmas.Bool.{eqb-true, eq-eqb, ne_eqb, cases_Bool, cases_eq, both_ways}
+use Rattle.std.proofs.lemmas.List.Elements.{All-head, All-tail, All-cons, All-nil, All-append}
 use Rattle.gu_contents.specs.declared.content.Content.{Content}
 use Rattle.gu_contents.specs.declared.content.Content.TheVariants.{Empty}
 use Rattle.gu_contents.specs.declared.facts.Facts.{Facts}
 use Rattle.gu_contents.specs.Order.{AtMost, at_most}
 use Rattle.gu_contents.specs.Join.{join}
 use Rattle.gu_contents.specs.Rank.{rank}
-use Rattle.gu_contents.specs.Belongs.{Belongs, IsListed}
-use Rattle.gu_contents.specs.Laws.{ContentsAreALattice, AnswersBelong, AnswersAreListed}
+use Rattle.gu_contents.specs.Belongs.{Belongs}
+use Rattle.gu_contents.specs.Laws.{ContentsAreALattice, AnswersBelong}
 use Rattle.gu_links.specs.declared.link.Link.{Link}
 use Rattle.gu_links.specs.Gives.{Contents, Asked, gives}
-use Rattle.gu_links.specs.Solutions.{at, AllBelong, IsBelow, IsMet, IsClosed, Solves, IsUnderAll, Least, IsOf, Fits, IsSystem}
-use Rattle.gu_links.specs.Laws.{SomeLeast}
+use Rattle.gu_links.specs.Solutions.{AllBelong, IsBelow, IsMet}
 use Rattle.gu_links.proofs.Lists.{all_front, all_back}
-use Rattle.gu_links.proofs.Given.{IsKept, belonging_is_kept, listed_is_kept, gives_proper}
-use Rattle.gu_links.proofs.Monotone.{gives_down}
+use Rattle.gu_links.proofs.Given.{IsKept, belonging_is_kept}
 
 pub same_contents : (x y : Contents) → ((c : ℕ) → x c ≡ y c) → x ≡ y
 same_contents x y h = λ i c. h c i
@@ -83,7 +78,7 @@ module _ (f : Facts) (lattice : ContentsAreALattice f) (answers : AnswersBelong 
       let up = raise_up ps x hx rest in let hr = raise_belongs ps x hx rest in
       record {
         at = λ c. lattice.order.transitive (x c) (raise f ps x c) (join f (pick c p) (raise f ps x c)) (hx.at c) (hr.at c)
-        (answers.join_does (pick c p) (raise f ps x c) (picked c p hp) (hr.at c)) (up.at c) (lattice.joins.second (pick c p) (raise f ps x c) (picked c p hp) (hr.at c));
+            (answers.join_does (pick c p) (raise f ps x c) (picked c p hp) (hr.at c)) (up.at c) (lattice.joins.second (pick c p) (raise f ps x c) (picked c p hp) (hr.at c));
       }
 
   pick_least : (b : Bool) (a y : Content) → (b ≡ true → AtMost f a y) → AtMost f (cond b a Empty) y
@@ -98,7 +93,7 @@ module _ (f : Facts) (lattice : ContentsAreALattice f) (answers : AnswersBelong 
       let lower = raise_least ps x y hx hy rest below (All-tail (IsMet f y) p ps met) in let hr = raise_belongs ps x hx rest in
       record {
         at = λ c. lattice.joins.least (pick c p) (raise f ps x c) (y c) (picked c p hp) (hr.at c) (hy.at c)
-        (pick_least (eqb p.0 c) p.1 (y c) (λ e. subst (λ (d : ℕ). AtMost f p.1 (y d)) (eqb-true p.0 c e) (All-head (IsMet f y) p ps met))) (lower.at c);
+            (pick_least (eqb p.0 c) p.1 (y c) (λ e. subst (λ (d : ℕ). AtMost f p.1 (y d)) (eqb-true p.0 c e) (All-head (IsMet f y) p ps met))) (lower.at c);
       }
 
   met_up : (ps : List Asked) (x y : Contents) → AllBelong f x → AllBelong f y → All HasContent ps → IsBelow f x y → All (IsMet f x) ps → All (IsMet f y) ps
