@@ -4,7 +4,7 @@ pub mod Nothing
 pub mod Covering
 pub mod Lists
 pub mod Converting
-pub mod Numbering
+pub mod Within
 pub mod Given
 pub mod Monotone
 pub mod Rounds

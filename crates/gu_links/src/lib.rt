@@ -3,5 +3,7 @@
 
 pub mod laws;
 mod link;
+mod numbering;
 
 pub use link::Link;
+pub use numbering::Numbering;
