@@ -11,3 +11,5 @@ pub mod Rounds
 pub mod Climbing
 pub mod Reached
 pub mod Lattice
+pub mod Knowing
+pub mod Finding

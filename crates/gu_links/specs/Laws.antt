@@ -6,6 +6,7 @@ use Rattle.gu_contents.specs.declared.facts.Facts.{Facts}
 use Rattle.gu_links.specs.declared.link.Link.{Link}
 use Rattle.gu_links.specs.Gives.{Contents, Asked, gives, reads, IsRoot}
 use Rattle.gu_links.specs.Solutions.{at, IsOpen, IsClosed, Solves, IsUnderAll, Least, IsOf, IsSystem}
+use Rattle.gu_links.specs.Reading.{Known, Agrees, Suffices, shown}
 use Rattle.gu_links.specs.States.{CoreState}
 
 -- contents agree on some cells
@@ -19,6 +20,11 @@ pub record IsSameOn (f : Facts) (links : List Link) (link : Link) (x y : Content
 
 abbrev pub LinksAreLocal : Type 0
 LinksAreLocal = (f : Facts) (links : List Link) (link : Link) (x y : Contents) → Agree (reads f links link x) x y → IsSameOn f links link x y
+
+-- What is known of all cells on which a link rests on what is known tells of all contents that have it: on which cells the
+-- link rests, and what it asks for
+abbrev pub KnownIsEnough : Type 0
+KnownIsEnough = (f : Facts) (links : List Link) (link : Link) (known : Known) (x : Contents) → Agrees known x → Suffices f links link known → IsSameOn f links link (shown known) x
 
 -- a link that is no root asks for nothing, or for nothing to be joined, where there is nothing in each cell on which it
 -- rests
