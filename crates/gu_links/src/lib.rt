@@ -7,3 +7,6 @@ mod numbering;
 
 pub use link::Link;
 pub use numbering::Numbering;
+
+#[cfg(test)]
+mod tests;
