@@ -1,15 +1,14 @@
 -- Each link that reads a cell is found by way of a type few supertypes above the cell's own.
-use Rattle.std.proofs.Common.{◌≡◌, ◌⊎◌, ℕ, zero, suc, ◌+◌, ◌<◌, ◌≤◌, ◌&&◌, Bool, true, false, cond, Option, Some, None, List, [], ◌∷◌, ◌++◌, map, length, sym, refl, ap, ◌∙◌, subst, inl, inr, ⊎_elim, arith}
-use Rattle.std.specs.Prelude.{All, Contains, flat_map, slice_get, slice_index, position, is_some, option_map}
-use Rattle.std.specs.List.{filter as keep, list_any}
-use Rattle.std.proofs.lemmas.Bool.{and_parts, cases_Bool}
+use Rattle.std.proofs.Common.{◌≡◌, ℕ, zero, suc, ◌<◌, ◌≤◌, ◌&&◌, Bool, true, false, cond, Option, Some, None, List, [], ◌∷◌, map, length, sym, refl, ap, ◌∙◌, inl, inr, ⊎_elim, arith}
+use Rattle.std.specs.Prelude.{All, Contains, flat_map, slice_get, slice_index, is_some, option_map}
+use Rattle.std.specs.List.{list_any}
+use Rattle.std.proofs.lemmas.Bool.{and_parts}
 use Rattle.std.proofs.lemmas.List.Elements.{Contains-append_cases, All-contains, All-map}
 use Rattle.gu_types.specs.declared.types.Abs.{Abs}
 use Rattle.gu_types.specs.declared.types.SubType.{SubType}
 use Rattle.gu_types.specs.declared.types.TypeList.{TypeList}
-use Rattle.gu_types.specs.declared.types.HeapType.{HeapType}
 use Rattle.gu_types.specs.declared.types.HeapType.TheVariants as H
-use Rattle.gu_types.specs.Depth.{types_of, parent, depth_within, depth, one_above}
+use Rattle.gu_types.specs.Depth.{types_of, parent, depth_within, one_above}
 use Rattle.gu_rec.specs.Keys.{run}
 use Rattle.gu_rec.specs.Sub.{distance, is_sub, line, line_within, root_line, next_line, same_heap, abs_line, kind_of}
 use Rattle.gu_rec.specs.Table.{place}

@@ -1,16 +1,15 @@
 -- What is known of the cells on which a link rests is enough.
-use Rattle.std.proofs.Common.{◌≡◌, ℕ, ◌+◌, ◌<◌, Bool, true, false, cond, eqb, List, [], ◌∷◌, map, length, get_or, sym, refl, ap, ◌∙◌, subst, arith}
-use Rattle.std.specs.Prelude.{All, Contains}
-use Rattle.std.proofs.lemmas.Bool.{cond-true, cond-false, eq-eqb, ne_eqb, eqb-true, cases_eq}
+use Rattle.std.proofs.Common.{◌≡◌, ℕ, eqb, List, [], ◌∷◌, get_or, sym, ap, ◌∙◌, subst, arith}
+use Rattle.std.specs.Prelude.{Contains}
+use Rattle.std.proofs.lemmas.Bool.{cond-true, cond-false, eq-eqb, ne_eqb, cases_eq}
 use Rattle.std.proofs.lemmas.List.Elements.{All-head, All-tail, Contains-append_cases}
 use Rattle.std.proofs.Common.{⊎_elim, inl, inr, ◌⊎◌}
 use Rattle.gu_contents.specs.declared.content.Content.{Content}
-use Rattle.gu_contents.specs.declared.content.Content.TheVariants.{Empty}
 use Rattle.gu_contents.specs.declared.facts.Facts.{Facts}
 use Rattle.gu_links.specs.declared.link.Link.{Link}
 use Rattle.gu_links.specs.Gives.{Contents, reads}
 use Rattle.gu_links.specs.Reading.{Known, known_cells, shown, Agrees, Suffices}
-use Rattle.gu_links.specs.Laws.{Agree, IsSameOn}
+use Rattle.gu_links.specs.Laws.{IsSameOn}
 use Rattle.gu_links.proofs.Local.{same_on}
 
 -- the element of a list of one

@@ -1,13 +1,8 @@
-use Rattle.std.proofs.Common.{ℕ, List}
 use Rattle.std.proofs.lemmas.List.Elements.{All-contains}
-use Rattle.gu_contents.specs.declared.content.Content.{Content}
-use Rattle.gu_contents.specs.declared.facts.Facts.{Facts}
 use Rattle.gu_contents.specs.Belongs.{Belongs, IsListed}
 use Rattle.gu_contents.proofs.Belonging.{answers_belong}
 use Rattle.gu_contents.proofs.Listed.{answers_listed}
-use Rattle.gu_links.specs.declared.link.Link.{Link}
-use Rattle.gu_links.specs.Gives.{gives}
-use Rattle.gu_links.specs.Solutions.{Fits, IsClosed, IsOf}
+use Rattle.gu_links.specs.Solutions.{Fits, IsClosed}
 use Rattle.gu_links.specs.Laws.{AskedIsProper, SolutionsMeet}
 use Rattle.gu_links.proofs.Lattice.{lattice}
 use Rattle.gu_links.proofs.Given.{belonging_is_kept, listed_is_kept, gives_proper}

@@ -1,5 +1,5 @@
-use Rattle.std.proofs.Common.{ℕ, ◌≡◌, ◌+◌, ◌∙◌, ap, sym, length, arith, rules}
-use Rattle.gu_links.specs.Cells.{before_func, own_cells, params_of, results_of, slots_before}
+use Rattle.std.proofs.Common.{◌≡◌, ◌∙◌, ap, sym, length, arith, rules}
+use Rattle.gu_links.specs.Cells.{before_func, own_cells}
 use Rattle.gu_links.proofs.Within.{starts_more, funcs_next, func_first}
 use Rattle.gu_links.proofs.numbering.func_starts.Goals as goal
 
@@ -14,7 +14,7 @@ pub loop-func-preserved : goal.loop-func-preserved
 loop-func-preserved c = record {
   long = search rules;
   starts = starts_more (before_func c.args.facts.now) c.loop-func.starts.items c.push.new.self.items c.loop-func.end c.loop-func.invariant.starts
-  (c.loop-func.invariant.end ∙ ap (before_func c.args.facts.now) (sym c.loop-func.invariant.long)) c.in_ok-push.ensures.items;
+      (c.loop-func.invariant.end ∙ ap (before_func c.args.facts.now) (sym c.loop-func.invariant.long)) c.in_ok-push.ensures.items;
   end = let e = funcs_next c.args.facts.now c.loop-func.func in let a = c.in_ok-params.ensures in let b = c.in_ok-end.ensures in let h = c.loop-func.invariant.end in let p = c.params_of.ensures in let r = c.results_of.ensures in omega arith;
 }
 

@@ -1,4 +1,4 @@
-use Rattle.std.proofs.Common.{ℕ, ◌≡◌, ◌+◌, ◌<◌, ◌∙◌, ap, sym, length, arith, rules}
+use Rattle.std.proofs.Common.{◌<◌, ◌∙◌, ap, sym, length, arith, rules}
 use Rattle.std.proofs.lemmas.Option.{slice_get_within}
 use Rattle.gu_types.specs.Depth.{types_of}
 use Rattle.gu_links.specs.Cells.{slots_before}
@@ -12,6 +12,6 @@ types-preserved c =
       long = let e = c.in_ok-ty.ensures in search rules;
       most = let e = c.in_ok-ty.ensures in omega arith;
       starts = starts_more (slots_before c.args.facts.now) c.types.starts.items c.push.new.self.items c.types.end c.types.invariant.starts
-      (c.types.invariant.end ∙ ap (slots_before c.args.facts.now) (sym c.types.invariant.long)) c.in_ok-push.ensures.items;
+          (c.types.invariant.end ∙ ap (slots_before c.args.facts.now) (sym c.types.invariant.long)) c.in_ok-push.ensures.items;
       end = let e = slots_next c.args.facts.now c.types.ty in let t = ap (slots_before c.args.facts.now) c.in_ok-ty.ensures in let b = c.in_ok-end.ensures in let h = c.types.invariant.end in let o = c.own_slots.ensures in omega arith;
     }

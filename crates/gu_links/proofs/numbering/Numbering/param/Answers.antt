@@ -1,5 +1,5 @@
-use Rattle.std.proofs.Common.{rules, ◌≡◌, ◌+◌, ◌<◌, ◌∙◌, ℕ, length, ap, sym, subst, arith}
-use Rattle.gu_links.specs.Cells.{before_func, param_cell, own_cells}
+use Rattle.std.proofs.Common.{rules, ◌≡◌, ◌+◌, ◌<◌, length, arith}
+use Rattle.gu_links.specs.Cells.{before_func, param_cell}
 use Rattle.gu_links.proofs.Within.{read_is, param_is, param_within}
 use Rattle.gu_links.proofs.numbering.Numbering.param.Goals as goal
 use Rattle.gu_links.proofs.numbering.Numbering.param.Goals.{After-index}

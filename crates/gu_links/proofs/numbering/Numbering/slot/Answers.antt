@@ -1,9 +1,5 @@
-use Rattle.std.proofs.Common.{rules, ◌≡◌, ◌+◌, ◌<◌, ◌∙◌, ℕ, length, ap, sym, subst, arith}
-use Rattle.gu_types.specs.Depth.{types_of}
-use Rattle.gu_types.specs.declared.types.HeapType.TheVariants as H
-use Rattle.gu_contents.specs.Contents.{least_of}
-use Rattle.gu_contents.proofs.Heights.{least_is, least_in_range}
-use Rattle.gu_links.specs.Cells.{slots_before, slot_cell, own_cells}
+use Rattle.std.proofs.Common.{rules, ◌≡◌, ◌+◌, ◌<◌, length, arith}
+use Rattle.gu_links.specs.Cells.{slots_before, slot_cell}
 use Rattle.gu_links.proofs.Within.{read_is, least_below, slot_is, slot_least_within}
 use Rattle.gu_links.proofs.numbering.Numbering.slot.Goals as goal
 use Rattle.gu_links.proofs.numbering.Numbering.slot.Goals.{After-index}
