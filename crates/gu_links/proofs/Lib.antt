@@ -10,6 +10,6 @@ pub mod Monotone
 pub mod Rounds
 pub mod Climbing
 pub mod Reached
-pub mod Lattice
 pub mod Knowing
 pub mod Finding
+pub mod Closing

@@ -4,7 +4,7 @@ use Rattle.gu_contents.proofs.Belonging.{answers_belong}
 use Rattle.gu_contents.proofs.Listed.{answers_listed}
 use Rattle.gu_links.specs.Solutions.{Fits, IsClosed}
 use Rattle.gu_links.specs.Laws.{AskedIsProper, SolutionsMeet}
-use Rattle.gu_links.proofs.Lattice.{lattice}
+use Rattle.gu_contents.proofs.Law.{lattice}
 use Rattle.gu_links.proofs.Given.{belonging_is_kept, listed_is_kept, gives_proper}
 use Rattle.gu_links.proofs.Monotone.{gives_down}
 use Rattle.gu_links.proofs.laws.links_are_monotone.Goals as goal
