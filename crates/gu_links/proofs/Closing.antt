@@ -1,8 +1,8 @@
 -- One cell rises: which links may then be open, and how far cells may still rise.
-use Rattle.std.proofs.Common.{◌≡◌, ◌≢◌, ◌⊎◌, ℕ, zero, suc, ◌+◌, ◌-◌, ◌<◌, ◌≤◌, Bool, true, false, cond, eqb, List, [], ◌∷◌, length, get_or, sym, refl, ap, ◌∙◌, subst, inl, inr, ⊎_elim, arith}
-use Rattle.std.specs.Prelude.{All, Contains, Some, slice_get, nat_eq}
+use Rattle.std.proofs.Common.{◌≡◌, ◌≢◌, ◌⊎◌, ℕ, zero, suc, ◌+◌, ◌-◌, ◌<◌, ◌≤◌, eqb, List, [], ◌∷◌, length, get_or, sym, refl, ap, subst, inl, inr, ⊎_elim, arith}
+use Rattle.std.specs.Prelude.{All, Contains, Some, slice_get}
 use Rattle.std.proofs.lemmas.Bool.{cond_both, cond-true, cond-false, eq-eqb, ne_eqb, cases_eq}
-use Rattle.std.proofs.lemmas.List.Elements.{All-nil, All-cons, Contains-append_left, Contains-append_right}
+use Rattle.std.proofs.lemmas.List.Elements.{All-nil, All-cons, Contains-append_right}
 use Rattle.std.proofs.lemmas.Option.{slice_get-get_or}
 use Rattle.gu_contents.specs.declared.content.Content.{Content}
 use Rattle.gu_contents.specs.declared.facts.Facts.{Facts}
@@ -13,9 +13,8 @@ use Rattle.gu_contents.specs.Belongs.{Belongs}
 use Rattle.gu_contents.specs.Laws.{ContentsAreALattice, AnswersBelong}
 use Rattle.gu_links.specs.declared.link.Link.{Link}
 use Rattle.gu_links.specs.Gives.{Contents, Asked, gives, reads}
-use Rattle.gu_links.specs.Solutions.{AllBelong, IsBelow, IsMet, IsClosed, Solves, IsUnderAll, Least, IsReader}
+use Rattle.gu_links.specs.Solutions.{AllBelong, IsBelow, IsMet, IsClosed, IsUnderAll, Least, IsReader}
 use Rattle.gu_links.specs.States.{raised}
-use Rattle.gu_links.specs.Laws.{Agree}
 use Rattle.gu_links.proofs.Local.{same_on}
 use Rattle.gu_links.proofs.Rounds.{alike, rank_le}
 
@@ -74,13 +73,13 @@ module _ (f : Facts) (lattice : ContentsAreALattice f) (answers : AnswersBelong 
       → ClosedBut f links more (raised f x to a)
   raise_keeps waiting more hs but stay readers = record {
     at = λ k link found. ⊎_elim
-    (λ (c : IsClosed f links link x). ⊎_elim
-    (λ (same : gives f links link (raised f x to a) ≡ gives f links link x).
-    inl (record { met = subst (λ (ps : List Asked). All (IsMet f (raised f x to a)) ps) (sym same) (stays_met (gives f links link x) (hs link) c.met) }))
-    (λ (r : IsReader f links to link). inr (readers k link found r))
-    (same_or_reads link))
-    (λ (w : Contains waiting k). inr (stay k w))
-    (but.at k link found);
+        (λ (c : IsClosed f links link x). ⊎_elim
+        (λ (same : gives f links link (raised f x to a) ≡ gives f links link x).
+        inl (record { met = subst (λ (ps : List Asked). All (IsMet f (raised f x to a)) ps) (sym same) (stays_met (gives f links link x) (hs link) c.met) }))
+        (λ (r : IsReader f links to link). inr (readers k link found r))
+        (same_or_reads link))
+        (λ (w : Contains waiting k). inr (stay k w))
+        (but.at k link found);
   }
 
   -- a cell that does not have a content yet stands higher with it
@@ -112,8 +111,8 @@ closed_is_least f links waiting x hx none but under = record {
   belong = hx;
   solves = record {
     closed = λ k d lt. ⊎_elim (λ (c : IsClosed f links (get_or links k d) x). c)
-    (λ (w : Contains waiting k). let bad : length waiting ≡ 0 = ap length none in absurd (let l = w.1 in omega arith))
-    (but.at k (get_or links k d) (slice_get-get_or links k d lt));
+        (λ (w : Contains waiting k). let bad : length waiting ≡ 0 = ap length none in absurd (let l = w.1 in omega arith))
+        (but.at k (get_or links k d) (slice_get-get_or links k d lt));
   };
   least = under;
 }
