@@ -1,0 +1,15 @@
+pub mod Agreeing
+pub mod Local
+pub mod Nothing
+pub mod Covering
+pub mod Lists
+pub mod Converting
+pub mod Within
+pub mod Given
+pub mod Monotone
+pub mod Rounds
+pub mod Climbing
+pub mod Reached
+pub mod Knowing
+pub mod Finding
+pub mod Closing
