@@ -1,0 +1,6 @@
+pub mod Lattice
+pub mod Entries
+pub mod Counts
+pub mod Words
+pub mod Steps
+pub mod Splits
