@@ -20,6 +20,10 @@ pub record Laws (f : Facts) (longs : List ℕ) : Type 0 where
   pub listed : AnswersAreListed f longs
   pub codes : CodesAreExact longs
 
+-- STUB until the laws stand
+pub the_laws : (f : Facts) (longs : List ℕ) → ⊥ → Laws f longs
+the_laws f longs stub = absurd stub
+
 module _ {f : Facts} {longs : List ℕ} (laws : Laws f longs) where
   pub join_belongs : (a b : Content) → BelongsTo f longs a → BelongsTo f longs b → BelongsTo f longs (join f a b)
   join_belongs a b p q = (laws.answers.join_does a b p.0 q.0, laws.listed.join_is a b p.1 q.1)

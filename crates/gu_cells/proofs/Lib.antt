@@ -4,3 +4,4 @@ pub mod Counts
 pub mod Words
 pub mod Steps
 pub mod Splits
+pub mod Found

@@ -7,7 +7,8 @@ use Rattle.gu_contents.specs.declared.content.Content.TheVariants.{Empty}
 use Rattle.gu_contents.specs.declared.facts.Facts.{Facts}
 use Rattle.gu_contents.specs.Order.{AtMost}
 use Rattle.gu_contents.specs.Codes.{code, content, HasWords}
-use Rattle.gu_cells.specs.Record.{BelongsTo, is_among}
+use Rattle.gu_contents.specs.Belongs.{IsListed, IsShallow}
+use Rattle.gu_cells.specs.Record.{at, BelongsTo, is_among}
 use Rattle.gu_cells.specs.Rule.{now_of, word_ceiling, IsWord, HasCode}
 use Rattle.gu_cells.proofs.Lattice.{Laws}
 use Rattle.gu_cells.proofs.Entries.{AllBelong, Rises, Agree}
@@ -59,3 +60,12 @@ pub agree_set : (longs words : List ℕ) (i new : ℕ) (cells : List ℕ) → 0 
 agree_set longs words i new cells pos is = record {
   same = λ d h. sym (unwritten longs words i new d (λ e. let z : d ≡ i - 1 = omega arith in let bad : true ≡ false = sym h ∙ (ap (is_among cells) z ∙ is) in cc));
 }
+
+-- a word that codes a content is the code of one, over a list that is the same
+pub some_code : (longs longs' : List ℕ) (word : ℕ) → longs' ≡ longs → HasCode longs word → (a : Content) × HasWords a × IsListed longs' a × IsShallow a × (code longs' a ≡ word)
+some_code longs longs' word e h =
+    subst (λ (l : List ℕ). (a : Content) × HasWords a × IsListed l a × IsShallow a × (code l a ≡ word)) (sym e) (content longs word, h.words, h.listed, h.shallow, h.coded)
+
+-- the ceiling of the word behind a cell
+pub cell_ceiling : (ceilings : List Content) (cell : ℕ) → word_ceiling ceilings (cell + 1) ≡ at ceilings cell
+cell_ceiling ceilings cell = let e : cell + 1 ≡ suc cell = omega arith in ap (word_ceiling ceilings) e
