@@ -1,0 +1,13 @@
+pub mod Heaps
+pub mod Heights
+pub mod Common
+pub mod Lattice
+pub mod OrderLaw
+pub mod Ranks
+pub mod JoinLaw
+pub mod MonotoneMeets
+pub mod Monotone
+pub mod MonotoneAnswers
+pub mod MonotoneEqual
+pub mod Belonging
+pub mod Cones

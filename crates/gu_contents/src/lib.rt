@@ -3,6 +3,17 @@
 
 mod content;
 mod facts;
+mod joining;
+mod laws;
+mod meets;
+mod numbers;
+mod order;
+mod same;
 
 pub use content::{Content, Core};
 pub use facts::{Facts, GlobalFact};
+pub use joining::join;
+pub use laws::contents_are_a_lattice;
+pub use meets::{all, equal, filter, minus, test};
+pub use numbers::{extend, is_null, pack, rank};
+pub use order::le;
