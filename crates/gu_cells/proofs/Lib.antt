@@ -5,3 +5,4 @@ pub mod Words
 pub mod Steps
 pub mod Splits
 pub mod Found
+pub mod Tries

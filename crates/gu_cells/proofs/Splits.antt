@@ -10,7 +10,7 @@ use Rattle.gu_contents.specs.declared.content.Content.{Content}
 use Rattle.gu_contents.specs.declared.content.Content.TheVariants.{Empty}
 use Rattle.gu_contents.specs.declared.facts.Facts.{Facts}
 use Rattle.gu_contents.specs.Order.{AtMost}
-use Rattle.gu_contents.specs.Codes.{code, content, HasWords}
+use Rattle.gu_contents.specs.Codes.{code, content}
 use Rattle.gu_cells.specs.declared.record.Entry.{Entry}
 use Rattle.gu_cells.specs.declared.record.Part.{Part}
 use Rattle.gu_cells.specs.declared.record.View.{View}
@@ -43,13 +43,17 @@ module _ {f : Facts} {longs : List ℕ} (laws : Laws f longs) (ceilings : List C
   Keeps = Kept f longs ceilings sizes
 
   nothing : content longs 0 ≡ Empty
-  nothing = ap (content longs) (sym laws.codes.nothing) ∙ laws.codes.gives_back Empty tt tt tt
+  unfolding content
+  nothing = refl
+
+  no_code : code longs Empty ≡ 0
+  unfolding code
+  no_code = refl
 
   -- the word 0 codes nothing, which is at most every ceiling
   zero_word : (ceiling : Content) → IsWord f longs ceiling 0
   zero_word ceiling = record {
-    coded = ap (code longs) nothing ∙ laws.codes.nothing;
-    words = subst HasWords (sym nothing) tt;
+    coded = ap (code longs) nothing ∙ no_code;
     belongs = subst (BelongsTo f longs) (sym nothing) (tt, tt);
     capped = subst (λ (x : Content). AtMost f x ceiling) (sym nothing) (laws.order.least ceiling);
   }

@@ -13,7 +13,7 @@ use Rattle.gu_contents.specs.declared.content.Content.{Content}
 use Rattle.gu_contents.specs.declared.content.Content.TheVariants.{Empty}
 use Rattle.gu_contents.specs.declared.facts.Facts.{Facts}
 use Rattle.gu_contents.specs.Order.{AtMost, at_most}
-use Rattle.gu_contents.specs.Codes.{code, content, HasWords}
+use Rattle.gu_contents.specs.Codes.{code, content}
 use Rattle.gu_cells.specs.declared.record.Entry.{Entry}
 use Rattle.gu_cells.specs.declared.record.Entry.TheVariants.{Read, Join}
 use Rattle.gu_cells.specs.declared.record.View.{View}

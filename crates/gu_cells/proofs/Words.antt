@@ -6,10 +6,9 @@ use Rattle.gu_contents.specs.declared.content.Content.{Content}
 use Rattle.gu_contents.specs.declared.content.Content.TheVariants.{Empty}
 use Rattle.gu_contents.specs.declared.facts.Facts.{Facts}
 use Rattle.gu_contents.specs.Order.{AtMost}
-use Rattle.gu_contents.specs.Codes.{code, content, HasWords}
-use Rattle.gu_contents.specs.Belongs.{IsListed, IsShallow}
+use Rattle.gu_contents.specs.Codes.{code, content}
 use Rattle.gu_cells.specs.Record.{at, BelongsTo, is_among}
-use Rattle.gu_cells.specs.Rule.{now_of, word_ceiling, IsWord, HasCode}
+use Rattle.gu_cells.specs.Rule.{now_of, word_ceiling, IsWord}
 use Rattle.gu_cells.proofs.Lattice.{Laws}
 use Rattle.gu_cells.proofs.Entries.{AllBelong, Rises, Agree}
 
@@ -42,9 +41,6 @@ words_set f longs ceilings words i new fits all is = record {
 }
 
 module _ {f : Facts} {longs : List ℕ} (laws : Laws f longs) where
-  pub has_code : (ceiling : Content) (word : ℕ) → IsWord f longs ceiling word → HasCode longs word
-  has_code ceiling word is = record { coded = is.coded; words = is.words; listed = is.belongs.1; shallow = laws.answers.shallow (content longs word) is.belongs.0 }
-
   pub rises_set : (words : List ℕ) (i new : ℕ) → i < length words → AtMost f (content longs (get_or words i 0)) (content longs new) → Rises f (now_of longs words) (now_of longs (set words i new))
   rises_set words i new fits le = record {
     rise = λ c. dite (ℕ_discrete (suc c) i)
@@ -60,11 +56,6 @@ pub agree_set : (longs words : List ℕ) (i new : ℕ) (cells : List ℕ) → 0 
 agree_set longs words i new cells pos is = record {
   same = λ d h. sym (unwritten longs words i new d (λ e. let z : d ≡ i - 1 = omega arith in let bad : true ≡ false = sym h ∙ (ap (is_among cells) z ∙ is) in cc));
 }
-
--- a word that codes a content is the code of one, over a list that is the same
-pub some_code : (longs longs' : List ℕ) (word : ℕ) → longs' ≡ longs → HasCode longs word → (a : Content) × HasWords a × IsListed longs' a × IsShallow a × (code longs' a ≡ word)
-some_code longs longs' word e h =
-    subst (λ (l : List ℕ). (a : Content) × HasWords a × IsListed l a × IsShallow a × (code l a ≡ word)) (sym e) (content longs word, h.words, h.listed, h.shallow, h.coded)
 
 -- the ceiling of the word behind a cell
 pub cell_ceiling : (ceilings : List Content) (cell : ℕ) → word_ceiling ceilings (cell + 1) ≡ at ceilings cell

@@ -7,14 +7,14 @@ use Rattle.gu_contents.specs.declared.content.Content.{Content}
 use Rattle.gu_contents.specs.declared.content.Content.TheVariants.{Empty}
 use Rattle.gu_contents.specs.declared.facts.Facts.{Facts}
 use Rattle.gu_contents.specs.Order.{AtMost, at_most}
-use Rattle.gu_contents.specs.Belongs.{Belongs, IsListed, IsShallow}
-use Rattle.gu_contents.specs.Codes.{code, content, HasWords}
+use Rattle.gu_contents.specs.Belongs.{Belongs}
+use Rattle.gu_contents.specs.Codes.{code, content}
 use Rattle.gu_cells.specs.declared.record.Entry.{Entry}
 use Rattle.gu_cells.specs.declared.record.Entry.TheVariants.{Read, Join}
 use Rattle.gu_cells.specs.declared.record.Part.{Part}
 use Rattle.gu_cells.specs.declared.record.View.{View}
 use Rattle.gu_cells.specs.declared.sizes.Sizes.{Sizes}
-use Rattle.gu_cells.specs.Record.{BelongsTo, RecordBelongs, RecordsBelong, seen, CoversAll, is_among, SomeFresh}
+use Rattle.gu_cells.specs.Record.{at, BelongsTo, RecordBelongs, RecordsBelong, seen, CoversAll, is_among, SomeFresh}
 
 -- the content of a cell, whose word is one further on: the word 0 is of no cell
 abbrev pub now_of : List ℕ → List ℕ → ℕ → Content
@@ -27,16 +27,8 @@ word_ceiling ceilings word = slice_index_or (Empty ∷ ceilings) word Empty
 -- a word codes a content that belongs to the facts and to the 64-bit literals and is at most a ceiling
 pub record IsWord (f : Facts) (longs : List ℕ) (ceiling : Content) (word : ℕ) : Type 0 where
   pub coded : code longs (content longs word) ≡ word
-  pub words : HasWords (content longs word)
   pub belongs : BelongsTo f longs (content longs word)
   pub capped : AtMost f (content longs word) ceiling
-
--- a word codes a content
-pub record HasCode (longs : List ℕ) (word : ℕ) : Type 0 where
-  pub coded : code longs (content longs word) ≡ word
-  pub words : HasWords (content longs word)
-  pub listed : IsListed longs (content longs word)
-  pub shallow : IsShallow (content longs word)
 
 -- the parts of a seat's record: its own, and those of the seats that were joined into it
 abbrev pub parts : View → List Part
@@ -168,7 +160,7 @@ pub record IsOpened (f : Facts) (longs : List ℕ) (ceilings : List Content) (f'
   pub fits : suc sizes.cells < 2 ^ 64
   pub no_slots : slots ≡ 0
   pub some_seats : 1 ≤ sizes.seats
-  pub ceilings_belong : (i : ℕ) → Belongs f (word_ceiling ceilings i)
+  pub ceilings_belong : (cell : ℕ) → Belongs f (at ceilings cell)
 
 -- a seat in the hands of a thread: it holds no slot, is not spent, took in no other, and its contents belong
 pub record IsOwnSeat (f : Facts) (longs : List ℕ) (v : View) (slots : List (ℕ × ℕ)) : Type 0 where
@@ -178,10 +170,11 @@ pub record IsOwnSeat (f : Facts) (longs : List ℕ) (v : View) (slots : List (�
   pub belongs : RecordBelongs f longs v.own
 
 -- what a step found at a cell: it belongs, is at most the ceiling and at least what the seat had seen there; the seat has
--- seen it now, and all in its record belongs
+-- seen it now, and all in its record belongs, as it did before
 pub record IsFound (f : Facts) (longs : List ℕ) (ceiling : Content) (cell : ℕ) (old new : List Entry) (found : Content) : Type 0 where
   pub belongs : BelongsTo f longs found
   pub capped : AtMost f found ceiling
   pub seen_before : AtMost f (seen f cell old) found
   pub sees : AtMost f found (seen f cell new)
+  pub all_belonged : RecordBelongs f longs old
   pub all_belong : RecordBelongs f longs new

@@ -1,5 +1,5 @@
 //! Cells as words of a table.
-ghost use Rattle.std.specs.Prelude.{◌≡◌, ◌≢◌, ℕ, ◌+◌, ◌<◌, ◌≤◌, suc, false, IfOk, IfErr, IfSome, IfNone, length, map, All, MatchBool, [], ◌∷◌, slice_index, vec_capacity};
+ghost use Rattle.std.specs.Prelude.{◌≡◌, ◌≢◌, ℕ, ◌+◌, ◌<◌, ◌≤◌, suc, false, IfOk, IfErr, IfSome, IfNone, length, map, All, MatchBool, [], ◌∷◌, vec_capacity};
 ghost use Rattle.std.specs.Slots.{slots_items, slots_len, IsFull};
 ghost use Rattle.std.specs.List.{range_with_len};
 ghost use Rattle.gu_contents.specs.Order.{AtMost};
@@ -7,7 +7,7 @@ ghost use Rattle.gu_contents.specs.Join.{join as join_of};
 ghost use Rattle.gu_contents.specs.Belongs.{Belongs};
 ghost use Rattle.gu_cells.specs.declared.record.Entry.TheVariants.{Read, Join};
 ghost use Rattle.gu_cells.specs.Record.{at, seen, BelongsTo, RecordBelongs, RecordsBelong, Appends, CoversAll, Settled};
-ghost use Rattle.gu_cells.specs.Rule.{first_view, counted, new_seat, looked, word_ceiling, now_of, records, parts, times, IsFound, HasCode};
+ghost use Rattle.gu_cells.specs.Rule.{first_view, counted, new_seat, looked, now_of, records, parts, times, IsFound};
 ghost use Rattle.gu_cells.specs.Views.{IsSameSeat};
 
 use crate::record::View;
@@ -64,7 +64,7 @@ impl<'a, N: Ceilings> Cells<'a, N> {
         requires facts { facts.now ≡ N.facts }
         requires longs { longs.now ≡ N.longs }
         requires seats { 1 ≤ sizes.seats }
-        requires belong { (i : ℕ) → Belongs N.facts (word_ceiling N.ceilings i) }
+        requires belong { (cell : ℕ) → Belongs N.facts (at N.ceilings cell) }
         ensures cells { IfOk result (λ r. (r.0.cells ≡ sizes.cells) × (r.0.seats ≡ sizes.seats)) }
         ensures seat { IfOk result (λ r. (r.1.table_id ≡ r.0.id) × (r.1.me ≡ (first_view, []))) }
     {
@@ -291,7 +291,6 @@ fn take_contents(
     contents: &mut Vec<Content>,
 )
     requires words { (slots_len closed.now.words ≡ suc cells) × IsFull closed.now.words }
-    requires codes { (i : ℕ) → HasCode longs.now (slice_index (slots_items closed.now.words) i) }
     requires room { (contents.old.items ≡ []) × (cells ≤ vec_capacity contents.old) }
     ensures length { length contents.new.items ≡ cells }
     ensures each { (cell : ℕ) → cell < cells → at contents.new.items cell ≡ now_of longs.now (slots_items closed.now.words) cell }

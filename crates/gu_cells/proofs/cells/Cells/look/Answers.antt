@@ -2,9 +2,7 @@ use Rattle.std.proofs.Common.{arith, ℕ, List, ◌≡◌, ◌∙◌, ◌+◌, �
 use Rattle.gu_contents.specs.declared.content.Content.{Content}
 use Rattle.gu_cells.specs.Record.{BelongsTo}
 use Rattle.gu_cells.specs.Views.{CellsView, SeatView}
-use Rattle.gu_cells.specs.Rule.{word_ceiling}
 use Rattle.gu_cells.proofs.Lattice.{the_laws}
-use Rattle.gu_cells.proofs.Words.{has_code, some_code}
 use Rattle.gu_contents.specs.Codes.{content}
 use Rattle.gu_cells.proofs.Found.{look_finds}
 use Rattle.gu_cells.proofs.Steps.{look_allowed}
@@ -20,12 +18,6 @@ load-word-requires g c =
       omega arith,
       look_allowed (the_laws n.facts n.longs ?) n.ceilings c.self.inside.table.shared.key _ _ (c.args.cell + 1) g.A.Asked.asked c.seat.inside.seat.me (omega arith) c.seat.invariant.live belongs,
     )
-
-pub content_of-requires-clause-coded : goal.content_of-requires-clause-coded
-content_of-requires-clause-coded g c =
-    let n = g.N.Ceilings in
-    some_code n.longs c.self.inside.longs.now c.load-word.result c.self.invariant.longs_are
-    (has_code (the_laws n.facts n.longs ?) (word_ceiling n.ceilings (c.args.cell + 1)) c.load-word.result c.load-word.ensures.2.finds.is_word)
 
 pub returns-clause-found : goal.returns-clause-found
 returns-clause-found g c =

@@ -1,8 +1,6 @@
 use Rattle.std.proofs.Common.{arith, ◌≡◌, ◌∙◌, ◌+◌, ◌<◌, ap, sym}
 use Rattle.gu_cells.specs.Views.{CellsView, SeatView}
-use Rattle.gu_cells.specs.Rule.{word_ceiling}
 use Rattle.gu_cells.proofs.Lattice.{the_laws}
-use Rattle.gu_cells.proofs.Words.{has_code, some_code}
 use Rattle.gu_cells.proofs.Steps.{read_allowed}
 use Rattle.gu_cells.proofs.cells.Cells.read.Goals as goal
 
@@ -14,9 +12,3 @@ load-word-requires g c =
       omega arith,
       read_allowed (the_laws n.facts n.longs ?) n.ceilings c.self.inside.table.shared.key _ _ (c.args.cell + 1) c.seat.inside.seat.me (omega arith) c.seat.invariant.live,
     )
-
-pub content_of-requires-clause-coded : goal.content_of-requires-clause-coded
-content_of-requires-clause-coded g c =
-    let n = g.N.Ceilings in
-    some_code n.longs c.self.inside.longs.now c.load-word.result c.self.invariant.longs_are
-    (has_code (the_laws n.facts n.longs ?) (word_ceiling n.ceilings (c.args.cell + 1)) c.load-word.result c.load-word.ensures.2.finds.is_word)
