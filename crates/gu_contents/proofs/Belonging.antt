@@ -1,5 +1,5 @@
 -- What is made of contents that belong to the facts of a module belongs to them.
-use Rattle.std.proofs.Common.{◌≡◌, ℕ, ◌-◌, ◌≤◌, Bool, true, false, not, ◌&&◌, if◌then◌else◌, Option, Some, None, refl, ap, ap₂, sym, ◌∙◌, subst, arith}
+use Rattle.std.proofs.Common.{◌≡◌, ℕ, ◌-◌, Bool, true, false, not, ◌&&◌, if◌then◌else◌, Option, Some, None, refl, ap, sym, subst, arith}
 use Rattle.gu_types.specs.declared.types.Abs.{Abs}
 use Rattle.gu_types.specs.declared.types.HeapType.{HeapType}
 use Rattle.gu_types.specs.declared.types.RefType.{RefType}
@@ -17,15 +17,12 @@ use Rattle.gu_contents.specs.Contents.{least_index, refs as refs_of, eq_core, eq
 use Rattle.gu_contents.specs.Whole.{whole_under, whole, all}
 use Rattle.gu_contents.specs.Meets.{meet, filter, core_minus, minus, test_of, test, is_null, apart, equal_refs, equal_cores, equal}
 use Rattle.gu_contents.specs.Numbers.{pack_to, pack, extend}
-use Rattle.gu_contents.specs.Join.{join}
-use Rattle.gu_contents.specs.Belongs.{IsCone, CoreBelongs, Occurs, Belongs, IsShallow}
+use Rattle.gu_contents.specs.Belongs.{IsCone, CoreBelongs, Belongs, IsShallow}
 use Rattle.gu_contents.specs.Laws.{AnswersBelong}
-use Rattle.gu_contents.proofs.Heaps.{name}
 use Rattle.gu_contents.proofs.Heights.{height_few, height_named, least_name, least_heap, least_in_range, least_no_bottom}
 use Rattle.gu_contents.proofs.JoinLaw.{join_belongs}
 use Rattle.gu_contents.proofs.MonotoneMeets.{MeetIs, gone, inside, partly, meet_is, part_cone}
 use Rattle.gu_contents.proofs.Monotone.{RefsAre, none_left, some_left, refs_are}
-use Rattle.gu_contents.proofs.MonotoneAnswers.{IsAnswer}
 
 refs_belong : (f : Facts) (n : Bool) (c : Core) → CoreBelongs f c → Belongs f (refs_of n c)
 refs_belong f n c h = by_refs (refs_are n c)

@@ -2,7 +2,7 @@
 use Rattle.std.proofs.Common.{◌≡◌, ℕ, ◌+◌, ◌≤◌, Bool, true, false, not, ◌||◌, ◌⊎◌, max, if◌then◌else◌, Option, Some, None, option_map, is_some, unwrap_or, MatchOption, refl, ap, ap₂, sym, ◌∙◌, subst, inl, inr, arith, true≢false}
 use Rattle.gu_types.specs.declared.types.HeapType.{HeapType}
 use Rattle.gu_types.specs.declared.types.TypeList.{TypeList}
-use Rattle.gu_rec.specs.Sub.{distance, height, IsSub, IsLeastCommon, HaveNoCommon, IsNoBottom}
+use Rattle.gu_rec.specs.Sub.{distance, IsSub, IsLeastCommon, HaveNoCommon, IsNoBottom}
 use Rattle.gu_rec.specs.Validity.{IndicesHold}
 use Rattle.gu_rec.proofs.Decided.{is_sub_sound}
 use Rattle.gu_contents.specs.declared.content.Core.{Core}
@@ -11,15 +11,14 @@ use Rattle.gu_contents.specs.declared.content.Content.{Content}
 use Rattle.gu_contents.specs.declared.content.Content.TheVariants.{Empty, I32, I64, NumGlobal, Many, Ref, Top}
 use Rattle.gu_contents.specs.declared.facts.Facts.{Facts}
 use Rattle.gu_contents.specs.Contents.{cone_of, eq_core, eq_content}
-use Rattle.gu_contents.specs.Order.{AtMost}
 use Rattle.gu_contents.specs.Join.{common, edges, cone_under, join_cones, join_cores, refs_or_top, join_numbers, join}
 use Rattle.gu_contents.specs.Belongs.{IsCone, CoreBelongs, Occurs, Belongs}
 use Rattle.gu_contents.specs.Laws.{JoinIsLeast}
 use Rattle.gu_contents.proofs.Heaps.{distance_adds, distance_self, sub_distance}
 use Rattle.gu_contents.proofs.Heights.{height_adds}
-use Rattle.gu_contents.proofs.Common.{Far, sub_far, Above, common_exact, common_above}
+use Rattle.gu_contents.proofs.Common.{sub_far, common_exact, common_above}
 use Rattle.gu_contents.proofs.Cones.{is_head}
-use Rattle.gu_contents.proofs.Lattice.{core_sound, core_own, content_sound, content_own, StandsFor, HasCone, none, some, has_cone, LiesIn, CoreBelow, least, same, lies, is_number, RefsBelow, Below, nothing, everything, equal, number, refs, below, holds}
+use Rattle.gu_contents.proofs.Lattice.{core_sound, core_own, content_sound, content_own, StandsFor, HasCone, none, some, has_cone, LiesIn, CoreBelow, least, same, lies, is_number, Below, nothing, everything, equal, number, refs, below, holds}
 use Rattle.gu_contents.proofs.OrderLaw.{same_cone}
 
 sub_of : (list : TypeList) → IndicesHold list → (a c : HeapType) (k : ℕ) → IsNoBottom a → distance list c a ≡ Some k → IsSub list a c

@@ -1,24 +1,20 @@
 -- What the order of contents says, case by case.
-use Rattle.std.proofs.Common.{◌≡◌, ◌≢◌, ℕ, zero, suc, ◌+◌, ◌<◌, ◌≤◌, Bool, true, false, not, ◌&&◌, ◌||◌, length, Option, Some, None, nat_eq, refl, ap, ap₂, sym, ◌∙◌, subst, arith}
-use Rattle.std.specs.Prelude.{nat_le, slice_index}
+use Rattle.std.proofs.Common.{◌≡◌, ℕ, ◌+◌, ◌≤◌, Bool, true, false, not, ◌||◌, Option, Some, None, nat_eq, refl, ap, ap₂, sym, ◌∙◌, subst, arith}
 use Rattle.std.specs.Bool.{beq}
 use Rattle.std.proofs.lemmas.Bool.{leb-true, le-leb}
 use Rattle.gu_types.specs.declared.types.HeapType.{HeapType}
 use Rattle.gu_types.specs.declared.types.HeapType.TheVariants as H
-use Rattle.gu_types.specs.declared.types.TypeList.{TypeList}
-use Rattle.gu_types.specs.Depth.{types_of}
-use Rattle.gu_rec.specs.Closed.{SameType}
-use Rattle.gu_rec.specs.Tests.{eq_abs, eq_heap}
-use Rattle.gu_rec.specs.Sub.{distance, height, IsHeapOf, IsNoBottom, IsLeastIndex}
+use Rattle.gu_rec.specs.Tests.{eq_heap}
+use Rattle.gu_rec.specs.Sub.{distance}
 use Rattle.gu_rec.proofs.Same.{left_of, right_of, both_of, bool_sound, bool_own, numbers_tell, abs_tell}
 use Rattle.gu_contents.specs.declared.content.Core.{Core}
 use Rattle.gu_contents.specs.declared.content.Core.TheVariants.{Bottom, Func, Global, Cone}
 use Rattle.gu_contents.specs.declared.content.Content.{Content}
 use Rattle.gu_contents.specs.declared.content.Content.TheVariants.{Empty, I32, I64, NumGlobal, Many, Ref, Top}
 use Rattle.gu_contents.specs.declared.facts.Facts.{Facts}
-use Rattle.gu_contents.specs.Contents.{least_of, bound, type_of_func, cone_of, eq_core, eq_content}
+use Rattle.gu_contents.specs.Contents.{bound, type_of_func, cone_of, eq_core, eq_content}
 use Rattle.gu_contents.specs.Order.{reaches, cone_at_most, core_at_most, at_most, AtMost}
-use Rattle.gu_contents.specs.Belongs.{IsCone, IsFunc, IsBounded, CoreBelongs, Occurs, Belongs}
+use Rattle.gu_contents.specs.Belongs.{IsCone, IsBounded, CoreBelongs, Belongs}
 use Rattle.gu_contents.proofs.Heaps.{distance_self}
 use Rattle.gu_contents.proofs.Cones.{func_cone}
 

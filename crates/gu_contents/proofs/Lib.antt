@@ -11,3 +11,5 @@ pub mod MonotoneAnswers
 pub mod MonotoneEqual
 pub mod Belonging
 pub mod Cones
+pub mod Coded
+pub mod Listed

@@ -1,9 +1,8 @@
 -- A greater content lets through no less where it is cast, keeps no less, and a test of it answers no less.
-use Rattle.std.proofs.Common.{◌≡◌, ◌≢◌, ℕ, zero, suc, ◌+◌, ◌-◌, ◌<◌, ◌≤◌, Bool, true, false, not, ◌&&◌, ◌||◌, ◌⊎◌, min, if◌then◌else◌, Option, Some, None, refl, ap, ap₂, sym, ◌∙◌, subst, inl, inr, arith, true≢false}
+use Rattle.std.proofs.Common.{◌≡◌, ℕ, ◌+◌, ◌-◌, Bool, true, false, not, ◌&&◌, ◌||◌, min, if◌then◌else◌, Option, Some, None, refl, ap, ap₂, sym, ◌∙◌, subst, arith, true≢false}
 use Rattle.gu_types.specs.declared.types.Abs.{Abs}
 use Rattle.gu_types.specs.declared.types.HeapType.{HeapType}
 use Rattle.gu_types.specs.declared.types.RefType.{RefType}
-use Rattle.gu_types.specs.declared.types.ValType.TheVariants as V
 use Rattle.gu_rec.specs.Sub.{top_over, distance, height, IsHeapOf, IsNoBottom}
 use Rattle.gu_contents.specs.declared.content.Core.{Core}
 use Rattle.gu_contents.specs.declared.content.Core.TheVariants.{Bottom, Func, Global, Cone}
@@ -11,16 +10,15 @@ use Rattle.gu_contents.specs.declared.content.Content.{Content}
 use Rattle.gu_contents.specs.declared.content.Content.TheVariants.{Empty, I32, I64, NumGlobal, Many, Ref, Top}
 use Rattle.gu_contents.specs.declared.facts.Facts.{Facts}
 use Rattle.gu_contents.specs.Contents.{least_index, cone_of, refs as refs_of, eq_core, eq_content}
-use Rattle.gu_contents.specs.Order.{AtMost}
 use Rattle.gu_contents.specs.Whole.{whole_under, whole, all}
 use Rattle.gu_contents.specs.Meets.{meet, filter, core_minus, minus, test_of, test}
-use Rattle.gu_contents.specs.Belongs.{IsCone, CoreBelongs, Occurs, Belongs}
+use Rattle.gu_contents.specs.Belongs.{CoreBelongs, Occurs, Belongs}
 use Rattle.gu_contents.proofs.Heaps.{distance_self, distance_adds}
 use Rattle.gu_contents.proofs.Heights.{height_adds}
 use Rattle.gu_contents.proofs.Cones.{is_head}
-use Rattle.gu_contents.proofs.Lattice.{core_sound, core_own, content_sound, content_own, StandsFor, LiesIn, CoreBelow, least, same, lies, is_number, RefsBelow, Below, nothing, everything, equal, number, refs, below, holds}
+use Rattle.gu_contents.proofs.Lattice.{core_sound, core_own, content_sound, content_own, StandsFor, LiesIn, CoreBelow, least, same, lies, is_number, Below, nothing, everything, equal, number, refs}
 use Rattle.gu_contents.proofs.JoinLaw.{stands_no_bottom}
-use Rattle.gu_contents.proofs.MonotoneMeets.{Gone, a_bottom, no_core, outside, Inside, Partly, part_of, MeetIs, gone, inside, partly, meet_is, meet_rises, bottom_meet, least_above, part_cone, Steps, steps, some_none}
+use Rattle.gu_contents.proofs.MonotoneMeets.{a_bottom, no_core, outside, Inside, Partly, part_of, MeetIs, gone, inside, partly, meet_is, meet_rises, bottom_meet, least_above, part_cone, steps, some_none}
 
 -- references that are none are nothing; all others are references
 pub data RefsAre (n : Bool) (c : Core) : Type 0 where

@@ -1,27 +1,23 @@
 -- A greater content is no less where it is compared, stored in a packed field, or read from one.
-use Rattle.std.proofs.Common.{◌≡◌, ℕ, zero, suc, ◌+◌, ◌-◌, ◌<◌, ◌≤◌, Bool, true, false, not, ◌&&◌, ◌||◌, ◌⊎◌, if◌then◌else◌, Option, Some, None, refl, ap, ap₂, sym, ◌∙◌, subst, inl, inr, arith, true≢false, nat_eq, ltb-true}
+use Rattle.std.proofs.Common.{◌≡◌, ℕ, ◌+◌, ◌-◌, ◌≤◌, Bool, true, false, not, ◌||◌, Option, Some, None, refl, ap, sym, ◌∙◌, subst, inl, inr, arith, true≢false, ltb-true}
 use Rattle.std.specs.Prelude.{nat_lt}
 use Rattle.std.proofs.lemmas.Bool.{cases_lt, lt-ltb}
 use Rattle.gu_types.specs.declared.types.HeapType.{HeapType}
 use Rattle.gu_types.specs.declared.types.Storage.{Storage}
 use Rattle.gu_types.specs.declared.types.Storage.TheVariants as S
-use Rattle.gu_types.specs.declared.types.TypeList.{TypeList}
 use Rattle.gu_rec.specs.Sub.{distance}
-use Rattle.gu_rec.proofs.Same.{numbers_tell}
 use Rattle.gu_contents.specs.declared.content.Core.{Core}
 use Rattle.gu_contents.specs.declared.content.Core.TheVariants.{Bottom, Func, Global, Cone}
 use Rattle.gu_contents.specs.declared.content.Content.{Content}
 use Rattle.gu_contents.specs.declared.content.Content.TheVariants.{Empty, I32, I64, NumGlobal, Many, Ref, Top}
 use Rattle.gu_contents.specs.declared.facts.Facts.{Facts}
-use Rattle.gu_contents.specs.Contents.{cone_of, eq_core}
-use Rattle.gu_contents.specs.Meets.{has_null, is_null, far_apart, cones_apart, apart, equal_refs, equal_cores, equal as equal_of}
-use Rattle.gu_contents.specs.Numbers.{pack_to, pack, extend_literal, extend}
-use Rattle.gu_contents.specs.Belongs.{CoreBelongs, Occurs, Belongs}
-use Rattle.gu_contents.proofs.Heaps.{distance_self, distance_adds, distance_between, distance_back}
-use Rattle.gu_contents.proofs.Lattice.{core_sound, core_own, StandsFor, HasCone, none, some, has_cone, LiesIn, CoreBelow, least, same, lies, is_number, RefsBelow, Below, nothing, everything, equal, number, refs, below, holds}
-use Rattle.gu_contents.proofs.JoinLaw.{stands_no_bottom}
-use Rattle.gu_contents.proofs.MonotoneMeets.{Steps, steps, some_none}
-use Rattle.gu_contents.proofs.Monotone.{below_bottom, below_empty}
+use Rattle.gu_contents.specs.Meets.{is_null, far_apart}
+use Rattle.gu_contents.specs.Numbers.{pack_to, pack, extend}
+use Rattle.gu_contents.specs.Belongs.{Occurs, Belongs}
+use Rattle.gu_contents.proofs.Heaps.{distance_adds, distance_between, distance_back}
+use Rattle.gu_contents.proofs.Lattice.{CoreBelow, is_number, Below, nothing, everything, equal, number, refs}
+use Rattle.gu_contents.proofs.MonotoneMeets.{Steps, some_none}
+use Rattle.gu_contents.proofs.Monotone.{below_bottom}
 
 -- an answer of a comparison of more values allows every other answer
 pub data IsAnswer (a : Content) : Type 0 where

@@ -1,5 +1,5 @@
 -- A comparison of greater contents answers no less.
-use Rattle.std.proofs.Common.{◌≡◌, ℕ, ◌≤◌, Bool, true, false, not, ◌&&◌, ◌||◌, ◌⊎◌, if◌then◌else◌, Option, Some, None, refl, ap, ap₂, sym, ◌∙◌, subst, inl, inr, arith, true≢false}
+use Rattle.std.proofs.Common.{◌≡◌, ℕ, Bool, true, false, not, ◌&&◌, ◌||◌, if◌then◌else◌, refl, ap, ap₂, sym, ◌∙◌, subst, arith, true≢false}
 use Rattle.gu_types.specs.declared.types.HeapType.{HeapType}
 use Rattle.gu_types.specs.declared.types.TypeList.{TypeList}
 use Rattle.gu_rec.specs.Sub.{distance}
@@ -10,10 +10,10 @@ use Rattle.gu_contents.specs.declared.content.Content.{Content}
 use Rattle.gu_contents.specs.declared.content.Content.TheVariants.{Empty, I32, I64, NumGlobal, Many, Ref, Top}
 use Rattle.gu_contents.specs.declared.facts.Facts.{Facts}
 use Rattle.gu_contents.specs.Contents.{cone_of, eq_core}
-use Rattle.gu_contents.specs.Meets.{far_apart, cones_apart, apart, equal_refs, equal_cores, equal as equal_of}
+use Rattle.gu_contents.specs.Meets.{cones_apart, apart, equal_refs, equal_cores, equal as equal_of}
 use Rattle.gu_contents.specs.Belongs.{CoreBelongs, Occurs, Belongs}
 use Rattle.gu_contents.proofs.Heaps.{distance_self}
-use Rattle.gu_contents.proofs.Lattice.{core_sound, core_own, StandsFor, HasCone, none, some, has_cone, LiesIn, CoreBelow, least, same, lies, is_number, RefsBelow, Below, nothing, everything, equal, number, refs}
+use Rattle.gu_contents.proofs.Lattice.{core_sound, core_own, StandsFor, HasCone, none, some, has_cone, CoreBelow, least, same, lies, is_number, Below, nothing, everything, equal, number, refs}
 use Rattle.gu_contents.proofs.JoinLaw.{stands_no_bottom, own_null}
 use Rattle.gu_contents.proofs.MonotoneMeets.{steps}
 use Rattle.gu_contents.proofs.Monotone.{below_bottom, below_empty}

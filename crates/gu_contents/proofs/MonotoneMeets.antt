@@ -1,17 +1,16 @@
 -- What of a core is at or below a heap type: no less of a greater core.
-use Rattle.std.proofs.Common.{◌≡◌, ℕ, zero, suc, ◌+◌, ◌-◌, ◌<◌, ◌≤◌, Bool, true, false, ◌⊎◌, min, if◌then◌else◌, Option, Some, None, is_some, refl, ap, ap₂, sym, ◌∙◌, subst, inl, inr, arith}
+use Rattle.std.proofs.Common.{◌≡◌, ℕ, zero, suc, ◌+◌, ◌-◌, ◌<◌, ◌≤◌, Bool, true, false, min, if◌then◌else◌, Option, Some, None, is_some, refl, ap, ap₂, sym, ◌∙◌, subst, inl, inr, arith}
 use Rattle.std.specs.Prelude.{nat_le}
 use Rattle.std.proofs.lemmas.Bool.{leb-true, le-leb, cases_lt}
 use Rattle.gu_types.specs.declared.types.Abs.{Abs}
 use Rattle.gu_types.specs.declared.types.HeapType.{HeapType}
-use Rattle.gu_types.specs.declared.types.TypeList.{TypeList}
 use Rattle.gu_rec.specs.Sub.{top_over, distance, height, IsHeapOf, IsNoBottom}
 use Rattle.gu_contents.specs.declared.content.Core.{Core}
 use Rattle.gu_contents.specs.declared.content.Core.TheVariants.{Bottom, Func, Global, Cone}
 use Rattle.gu_contents.specs.declared.facts.Facts.{Facts}
 use Rattle.gu_contents.specs.Contents.{least_index, bound, type_of_func, cone_of}
 use Rattle.gu_contents.specs.Order.{reaches, cone_at_most}
-use Rattle.gu_contents.specs.Whole.{whole_under, whole}
+use Rattle.gu_contents.specs.Whole.{whole}
 use Rattle.gu_contents.specs.Meets.{below_head, meet_cone, meet_heap, meet_under, meet}
 use Rattle.gu_contents.specs.Belongs.{IsCone, CoreBelongs}
 use Rattle.gu_contents.proofs.Heaps.{distance_self, distance_adds, distance_between, distance_zero, above_named, below_named}
@@ -96,9 +95,12 @@ under_head f c to a i s n e (Some k) h = by_test (nat_le k i) refl
     by_test : (b : Bool) → nat_le k i ≡ b → MeetIs f c to (if b then Cone (least_index f.types to) (min (i - k) (height f.types to)) else Bottom)
     by_test true t = partly (record { no_bottom = n; a = a; i = i; stands = s; missed = e; edges = k; is = h; within = leb-true k i t }) refl
     by_test false t =
-        gone (outside a i s (record { missed = e; far = λ m z.
-          let y = same_edges (distance f.types a to) k m h z in
-          elim (cases_lt i k) as (λ _. i < m) [ inl l ↦ omega arith | inr l ↦ let x : false ≡ true = sym t ∙ le-leb k i l in cc ] })) refl
+        gone (outside a i s (record {
+          missed = e;
+          far = λ m z.
+              let y = same_edges (distance f.types a to) k m h z in
+              elim (cases_lt i k) as (λ _. i < m) [ inl l ↦ omega arith | inr l ↦ let x : false ≡ true = sym t ∙ le-leb k i l in cc ];
+        })) refl
 
 cone_meet : (f : Facts) (c : Core) (to : HeapType) (a : HeapType) (i : ℕ) → StandsFor f c a i → IsNoBottom to → distance f.types to a ≡ None → MeetIs f c to (meet_cone f.types (Cone a i) to)
 cone_meet f c to a i s n e =

@@ -1,5 +1,5 @@
 -- The order of contents is one.
-use Rattle.std.proofs.Common.{◌≡◌, ℕ, ◌+◌, ◌≤◌, Bool, true, false, not, ◌||◌, Option, Some, refl, ap, ap₂, sym, ◌∙◌, subst, arith}
+use Rattle.std.proofs.Common.{◌≡◌, ℕ, ◌+◌, Bool, true, false, not, ◌||◌, Some, refl, ap, ap₂, sym, ◌∙◌, subst, arith}
 use Rattle.gu_types.specs.declared.types.HeapType.{HeapType}
 use Rattle.gu_rec.specs.Sub.{distance, IsLeastIndex}
 use Rattle.gu_contents.specs.declared.content.Core.{Core}
@@ -8,8 +8,8 @@ use Rattle.gu_contents.specs.declared.content.Content.{Content}
 use Rattle.gu_contents.specs.declared.content.Content.TheVariants.{Empty, Many, Ref, Top}
 use Rattle.gu_contents.specs.declared.facts.Facts.{Facts}
 use Rattle.gu_contents.specs.Contents.{cone_of}
-use Rattle.gu_contents.specs.Order.{at_most, AtMost}
-use Rattle.gu_contents.specs.Belongs.{IsCone, CoreBelongs, Belongs}
+use Rattle.gu_contents.specs.Order.{AtMost}
+use Rattle.gu_contents.specs.Belongs.{Belongs}
 use Rattle.gu_contents.specs.Laws.{IsOrder}
 use Rattle.gu_contents.proofs.Heaps.{distance_adds, distance_back, distance_zero, one_index}
 use Rattle.gu_contents.proofs.Lattice.{StandsFor, LiesIn, CoreBelow, least, same, lies, is_number, RefsBelow, Below, nothing, everything, equal, number, refs, below, holds, self_below}

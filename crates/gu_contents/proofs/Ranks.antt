@@ -1,5 +1,5 @@
 -- Each greater content stands higher.
-use Rattle.std.proofs.Common.{◌⊎◌, Option, Some, inl, inr, ◌≡◌, ◌≢◌, ℕ, ◌+◌, ◌<◌, ◌≤◌, Bool, true, false, not, ◌||◌, if◌then◌else◌, refl, ap, ap₂, sym, ◌∙◌, subst, arith}
+use Rattle.std.proofs.Common.{◌⊎◌, Some, inl, inr, ◌≡◌, ◌≢◌, ℕ, ◌+◌, ◌<◌, ◌≤◌, Bool, true, false, not, ◌||◌, refl, ap, ap₂, sym, ◌∙◌, subst, arith}
 use Rattle.std.proofs.lemmas.Bool.{cases_lt}
 use Rattle.gu_types.specs.declared.types.HeapType.{HeapType}
 use Rattle.gu_rec.specs.Sub.{distance}
@@ -8,14 +8,12 @@ use Rattle.gu_contents.specs.declared.content.Core.TheVariants.{Bottom, Func, Gl
 use Rattle.gu_contents.specs.declared.content.Content.{Content}
 use Rattle.gu_contents.specs.declared.content.Content.TheVariants.{Empty, I32, I64, NumGlobal, Many, Ref, Top}
 use Rattle.gu_contents.specs.declared.facts.Facts.{Facts}
-use Rattle.gu_contents.specs.Contents.{cone_of}
-use Rattle.gu_contents.specs.Order.{AtMost}
 use Rattle.gu_contents.specs.Rank.{core_rank, rank}
 use Rattle.gu_contents.specs.Belongs.{CoreBelongs, Occurs, Belongs}
 use Rattle.gu_contents.specs.Laws.{RanksRise}
 use Rattle.gu_contents.proofs.Heaps.{distance_zero, one_index}
 use Rattle.gu_contents.proofs.Heights.{height_few}
-use Rattle.gu_contents.proofs.Lattice.{LiesIn, CoreBelow, least, same, lies, is_number, RefsBelow, Below, nothing, everything, equal, number, refs, below}
+use Rattle.gu_contents.proofs.Lattice.{LiesIn, CoreBelow, least, same, lies, is_number, Below, nothing, everything, equal, number, refs, below}
 
 least_climbs : (f : Facts) (c d : Core) → c ≡ Bottom → (c ≡ d) ⊎ (core_rank c < core_rank d)
 least_climbs f c Bottom e = inl e

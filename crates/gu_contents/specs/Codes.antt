@@ -1,5 +1,6 @@
 -- Contents as numbers of 64 bits: a tag in the low four bits, and above it what the tag needs.
-use Rattle.std.specs.Prelude.{ℕ, ◌+◌, ◌-◌, ◌*◌, ◌/◌, ◌%◌, ◌^◌, ◌<◌, true, false, List, [], ◌∷◌, nat_eq, nat_lt, position, unwrap_or, slice_index, slice_index_or, if◌then◌else◌}
+use Rattle.std.specs.Prelude.{ℕ, ◌+◌, ◌-◌, ◌*◌, ◌/◌, ◌%◌, ◌^◌, ◌<◌, true, false, List, [], ◌∷◌, ◌++◌, nat_eq, nat_lt, position, unwrap_or, slice_index, slice_index_or, if◌then◌else◌}
+use Rattle.std.specs.List.{list_any}
 use Rattle.gu_types.specs.declared.types.Abs.{Abs}
 use Rattle.gu_types.specs.declared.types.Abs.TheVariants as A
 use Rattle.gu_types.specs.declared.types.HeapType.{HeapType}
@@ -9,6 +10,10 @@ use Rattle.gu_contents.specs.declared.content.Core.{Core}
 use Rattle.gu_contents.specs.declared.content.Core.TheVariants.{Bottom, Func, Global, Cone}
 use Rattle.gu_contents.specs.declared.content.Content.{Content}
 use Rattle.gu_contents.specs.declared.content.Content.TheVariants.{Empty, I32, I64, NumGlobal, Many, Ref, Top}
+
+-- the list with a literal put last, where it is not in the list
+abbrev pub with_literal : List ℕ → ℕ → List ℕ
+with_literal longs v = if list_any (nat_eq v) longs then longs else longs ++ v ∷ []
 
 -- a tag with what stands above it
 abbrev pub tagged : ℕ → ℕ → ℕ
@@ -72,11 +77,20 @@ content_at longs tag rest =
 unfoldable pub content : List ℕ → ℕ → Content
 content longs number = content_at longs (number % 16) (number / 16)
 
--- the numbers in a content are of 32 bits, as they are in every content of a program
+-- the index in a heap type is of 32 bits, as it is in every heap type of a program
+abbrev pub HeapHasWords : HeapType → Type 0
+HeapHasWords (H.Abs kind) = Unit {0}
+HeapHasWords (H.Idx i) = i < 2 ^ 32
+
+abbrev pub CoreHasWords : Core → Type 0
+CoreHasWords Bottom = Unit {0}
+CoreHasWords (Func f) = f < 2 ^ 32
+CoreHasWords (Global g) = g < 2 ^ 32
+CoreHasWords (Cone head depth) = HeapHasWords head
+
+-- the indices and the 32-bit literal in a content are of 32 bits, as they are in every content of a program
 abbrev pub HasWords : Content → Type 0
 HasWords (I32 v) = v < 2 ^ 32
 HasWords (NumGlobal g) = g < 2 ^ 32
-HasWords (Ref n (Func f)) = f < 2 ^ 32
-HasWords (Ref n (Global g)) = g < 2 ^ 32
-HasWords (Ref n (Cone (H.Idx i) depth)) = i < 2 ^ 32
+HasWords (Ref n c) = CoreHasWords c
 HasWords a = Unit {0}

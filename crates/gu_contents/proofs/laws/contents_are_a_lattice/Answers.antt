@@ -1,4 +1,3 @@
-use Rattle.std.proofs.Common.{ℕ}
 use Rattle.gu_contents.specs.declared.facts.Facts.{Facts}
 use Rattle.gu_contents.specs.Laws.{OperationsAreMonotone, ContentsAreALattice}
 use Rattle.gu_contents.specs.Meets.{filter, minus, test, is_null, equal}
