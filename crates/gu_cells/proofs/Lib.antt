@@ -6,3 +6,5 @@ pub mod Steps
 pub mod Splits
 pub mod Found
 pub mod Tries
+pub mod Seats
+pub mod Closing

@@ -42,7 +42,7 @@ module _ {f : Facts} {longs : List ℕ} (laws : Laws f longs) (ceilings : List C
   abbrev Keeps : St → Type 0
   Keeps = Kept f longs ceilings sizes
 
-  nothing : content longs 0 ≡ Empty
+  pub nothing : content longs 0 ≡ Empty
   unfolding content
   nothing = refl
 
