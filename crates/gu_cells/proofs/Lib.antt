@@ -8,3 +8,4 @@ pub mod Found
 pub mod Tries
 pub mod Seats
 pub mod Closing
+pub mod Topped

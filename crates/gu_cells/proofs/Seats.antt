@@ -1,6 +1,6 @@
 -- The numbers and the records of a list of seats.
-use Rattle.std.proofs.Common.{◌≡◌, ℕ, zero, suc, ◌+◌, ◌-◌, ◌<◌, ◌≤◌, eqb, cond, Bool, List, [], ◌∷◌, ◌++◌, map, length, sym, refl, ap, ◌∙◌, subst, arith, eq-eqb, append-nil}
-use Rattle.std.proofs.lemmas.List.{map-append}
+use Rattle.std.proofs.Common.{◌≡◌, ℕ, zero, suc, ◌+◌, ◌-◌, ◌<◌, ◌≤◌, eqb, cond, Bool, List, [], ◌∷◌, ◌++◌, map, length, sym, refl, ap, ◌∙◌, subst, arith, eq-eqb, append-nil, length-append, Option, Some, None, MatchOption}
+use Rattle.std.proofs.lemmas.List.{map-append, get_or_append_left}
 use Rattle.std.specs.List.{range_with_len, All}
 use Rattle.std.proofs.lemmas.List.Elements.{All-append, All-head, All-tail}
 use mathlib.Core.Logic.{dite}
@@ -112,3 +112,11 @@ first_of_left P left left' s e h = All-head P s left' (subst (λ zs. All P zs) e
 
 pub rest_of_left : (P : SeatView → Type 0) (left left' : List SeatView) (s : SeatView) → left ≡ s ∷ left' → All P left → All P left'
 rest_of_left P left left' s e h = All-tail P s left' (subst (λ zs. All P zs) e h)
+
+all_front : (P : SeatView → Type 0) (xs : List SeatView) (s : SeatView) → All P (xs ++ s ∷ []) → All P xs
+all_front P xs s h k d lt = subst P (get_or_append_left xs (s ∷ []) d k lt) (h k d (omega (arith, lt, length-append xs (s ∷ []))))
+
+-- what holds of all seats of a list holds of those that are left when the last is taken off
+pub all_popped : (P : SeatView → Type 0) (old new : List SeatView) (last : Option SeatView) → MatchOption last ((old ≡ []) × (new ≡ [])) (λ s. old ≡ new ++ s ∷ []) → All P old → All P new
+all_popped P old new None m h = subst (λ zs. All P zs) (m.0 ∙ sym m.1) h
+all_popped P old new (Some s) m h = all_front P new s (subst (λ zs. All P zs) m h)
