@@ -1,12 +1,12 @@
 -- The contents that are read off a closed table.
-use Rattle.std.proofs.Common.{◌≡◌, ℕ, zero, suc, ◌+◌, ◌-◌, ◌<◌, ◌≤◌, ◌≢◌, false, List, [], ◌∷◌, ◌++◌, map, length, get_or, sym, refl, ap, ◌∙◌, subst, arith, add-one}
+use Rattle.std.proofs.Common.{◌≡◌, ℕ, zero, suc, ◌+◌, ◌-◌, ◌<◌, ◌≤◌, false, List, [], ◌∷◌, ◌++◌, length, get_or, sym, refl, ap, ◌∙◌, subst, arith, add-one}
 use Rattle.std.proofs.lemmas.List.{get_or_past, get_or-append_right, get_or_append_left}
 use Rattle.std.specs.List.{All}
 use mathlib.Core.Logic.{dite}
-use mathlib.Core.Option.{some, none, some-injective, some-ne-none}
+use mathlib.Core.Option.{some, some-injective, some-ne-none}
 use native.Mathlib.Decide.{dec_lt}
 use lib.ListN.{get_elem?}
-use Rattle.atomic_table.specs.Table.{State, Final, Seen}
+use Rattle.atomic_table.specs.Table.{Final, Seen}
 use Rattle.gu_contents.specs.declared.content.Content.{Content}
 use Rattle.gu_contents.specs.declared.content.Content.TheVariants.{Empty}
 use Rattle.gu_contents.specs.declared.facts.Facts.{Facts}
@@ -16,7 +16,7 @@ use Rattle.gu_cells.specs.declared.record.Entry.{Entry}
 use Rattle.gu_cells.specs.declared.record.View.{View}
 use Rattle.gu_cells.specs.declared.sizes.Sizes.{Sizes}
 use Rattle.gu_cells.specs.Record.{at, BelongsTo, RecordsBelong, CoversAll, Settled}
-use Rattle.gu_cells.specs.Rule.{now_of, word_ceiling, times, parts, records, Kept, IsSeat, IsWord}
+use Rattle.gu_cells.specs.Rule.{now_of, times, parts, records, Kept, IsSeat}
 use Rattle.gu_cells.proofs.Lattice.{Laws}
 use Rattle.gu_cells.proofs.Entries.{AllBelong, Rises, Agree, covers_all_up, some_fresh_same}
 use Rattle.gu_cells.proofs.Words.{all_belong}

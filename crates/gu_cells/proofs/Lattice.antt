@@ -1,9 +1,8 @@
 -- What is used of the lattice of contents.
-use Rattle.std.proofs.Common.{ℕ, ◌≡◌, Bool, true, false, List, [], ◌∷◌, eqb, cond, sym, subst}
+use Rattle.std.proofs.Common.{ℕ, ◌≡◌, Bool, true, false, List, [], ◌∷◌, eqb, cond}
 use Rattle.gu_contents.specs.declared.content.Content.{Content}
-use Rattle.gu_contents.specs.declared.content.Content.TheVariants.{Empty}
 use Rattle.gu_contents.specs.declared.facts.Facts.{Facts}
-use Rattle.gu_contents.specs.Order.{AtMost, at_most}
+use Rattle.gu_contents.specs.Order.{AtMost}
 use Rattle.gu_contents.specs.Join.{join}
 use Rattle.gu_contents.specs.Belongs.{Belongs, IsListed}
 use Rattle.gu_contents.specs.Laws.{IsOrder, JoinIsLeast, RanksRise, AnswersBelong}

@@ -150,7 +150,8 @@ impl<'a, N: Ceilings> Cells<'a, N> {
         ensures record { seat.new.entries ≡ looked N.facts cell asked result seat.old.entries }
         ensures found { IsFound N.facts N.longs (at N.ceilings cell) cell seat.old.entries seat.new.entries result }
     {
-        let word = self.table
+        let word = self
+            .table
             .shared
             .load::<Looks<N, A>>(&mut seat.seat, cell + 1);
         content_of(self.longs, word)
@@ -180,7 +181,8 @@ impl<'a, N: Ceilings> Cells<'a, N> {
     {
         let old = code_of(self.longs, before);
         let new = code_of(self.longs, after);
-        let found = self.table
+        let found = self
+            .table
             .shared
             .compare_exchange::<Joins<N, A>>(&mut seat.seat, cell + 1, old, new);
         if found == old {

@@ -1,4 +1,4 @@
-use Rattle.std.proofs.Common.{rules, arith, ◌≡◌, ◌+◌, ◌<◌}
+use Rattle.std.proofs.Common.{rules}
 use Rattle.std.specs.Slots.{slots_items}
 use Rattle.gu_cells.proofs.Closing.{taken_more}
 use Rattle.gu_cells.proofs.cells.take_contents.Goals as goal

@@ -1,4 +1,4 @@
-use Rattle.std.proofs.Common.{arith, ap, sym, ◌≡◌, ◌<◌, ◌≤◌, ◌∙◌, ◌++◌, ℕ, List, length, map}
+use Rattle.std.proofs.Common.{arith, ap, sym, ◌≡◌, ◌∙◌, ◌++◌, ℕ, List, length, map}
 use Rattle.atomic_table.specs.Table.{Me}
 use Rattle.gu_cells.specs.declared.record.View.{View}
 use Rattle.gu_cells.specs.Rule.{parts, records, both}

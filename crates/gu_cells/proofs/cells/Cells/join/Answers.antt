@@ -1,12 +1,10 @@
-use Rattle.std.proofs.Common.{rules, arith, Bool, true, false, List, ◌≡◌, ◌≢◌, ◌++◌, ◌∷◌, ◌∙◌, ◌-◌, ◌<◌, ap, sym, subst}
+use Rattle.std.proofs.Common.{rules, true, false, List, ◌≡◌, ◌≢◌, ◌∷◌, ◌∙◌, ap, sym, subst}
 use Rattle.gu_contents.specs.declared.content.Content.{Content}
 use Rattle.gu_contents.specs.declared.facts.Facts.{Facts}
 use Rattle.gu_contents.specs.Order.{AtMost, at_most}
 use Rattle.gu_contents.specs.Join as joins
-use Rattle.gu_contents.specs.Rank.{rank}
 use Rattle.gu_cells.specs.declared.record.Entry.{Entry}
-use Rattle.gu_cells.specs.Record.{at, seen, BelongsTo, RecordBelongs, reads_of}
-use Rattle.gu_cells.specs.Views.{SeatView}
+use Rattle.gu_cells.specs.Record.{at, seen, BelongsTo}
 use Rattle.gu_cells.specs.Rule.{looked}
 use Rattle.gu_cells.proofs.Lattice.{the_laws, join_belongs, seen_belongs, join_absorbs}
 use Rattle.gu_cells.proofs.Tries.{look_decides, look_reads, exchange_appends, after_capped, after_differs, found_more, found_less}

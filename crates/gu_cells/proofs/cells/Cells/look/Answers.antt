@@ -1,4 +1,4 @@
-use Rattle.std.proofs.Common.{arith, ℕ, List, ◌≡◌, ◌∙◌, ◌+◌, ◌<◌, ap, sym, subst}
+use Rattle.std.proofs.Common.{arith, ℕ, List, ◌∙◌, ◌+◌, ap, sym, subst}
 use Rattle.gu_contents.specs.declared.content.Content.{Content}
 use Rattle.gu_cells.specs.Record.{BelongsTo}
 use Rattle.gu_cells.specs.Views.{CellsView, SeatView}
@@ -6,7 +6,6 @@ use Rattle.gu_cells.proofs.Lattice.{the_laws}
 use Rattle.gu_contents.specs.Codes.{content}
 use Rattle.gu_cells.proofs.Found.{look_finds}
 use Rattle.gu_cells.proofs.Steps.{look_allowed}
-
 use Rattle.gu_cells.proofs.cells.Cells.look.Goals as goal
 
 pub load-word-requires : goal.load-word-requires

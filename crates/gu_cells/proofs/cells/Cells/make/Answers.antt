@@ -1,4 +1,4 @@
-use Rattle.std.proofs.Common.{arith, ◌≡◌, ℕ, zero, suc, ◌+◌, length, get_or, replicate, ap, ◌∙◌, refl, add-one}
+use Rattle.std.proofs.Common.{◌≡◌, ℕ, zero, suc, ◌+◌, length, get_or, replicate, ap, ◌∙◌, refl, add-one}
 use Rattle.std.proofs.lemmas.List.{length-replicate}
 use Rattle.gu_cells.proofs.Lattice.{the_laws}
 use Rattle.gu_cells.proofs.Splits.{starts}

@@ -1,4 +1,4 @@
-use Rattle.std.proofs.Common.{rules, arith, ℕ, List, ◌≡◌, ◌∙◌, ap, []}
+use Rattle.std.proofs.Common.{arith, ℕ, ◌≡◌, ◌∙◌, ap, []}
 use Rattle.atomic_table.specs.Table.{Me}
 use Rattle.gu_cells.specs.declared.record.View.{View}
 use Rattle.gu_cells.specs.Rule.{counted}

@@ -1,6 +1,5 @@
-use Rattle.std.proofs.Common.{◌≡◌, ◌-◌, ◌≤◌, [], map, All, false}
+use Rattle.std.proofs.Common.{◌≡◌, ◌-◌, [], map, All, false}
 use Rattle.std.specs.List.{range_with_len}
-use Rattle.gu_cells.specs.declared.record.View.{View}
 use Rattle.gu_cells.specs.Rule.{view}
 use Rattle.gu_cells.specs.Views.{SeatView}
 use Rattle.gu_cells.proofs.cells.Cells.open.Given as goal

@@ -1,4 +1,4 @@
-use Rattle.std.proofs.Common.{arith, ◌≡◌, ◌∙◌, ◌+◌, ◌<◌, ap, sym}
+use Rattle.std.proofs.Common.{arith, ◌∙◌, ◌+◌, ap, sym}
 use Rattle.gu_cells.specs.Views.{CellsView, SeatView}
 use Rattle.gu_cells.proofs.Lattice.{the_laws}
 use Rattle.gu_cells.proofs.Steps.{read_allowed}

@@ -1,4 +1,4 @@
-use Rattle.std.proofs.Common.{arith, rules, ◌≡◌, ◌∙◌, ◌<◌, ap, sym}
+use Rattle.std.proofs.Common.{arith, ◌∙◌, ap, sym}
 use Rattle.gu_cells.specs.declared.sizes.Sizes.{Sizes}
 use Rattle.gu_cells.specs.Views.{CellsView}
 use Rattle.gu_cells.proofs.Lattice.{the_laws}
