@@ -1,0 +1,4 @@
+pub mod Record
+pub mod Views
+pub mod Rule
+pub mod NoFacts
