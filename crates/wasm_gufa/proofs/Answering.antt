@@ -1,10 +1,10 @@
 -- Bytes ask for one answer, and what a run says of them is that answer.
-use Rattle.std.proofs.Common.{ℕ, ◌+◌, ◌<◌, ◌≤◌, ◌≡◌, ◌≢◌, refl, ap, ◌∙◌, sym, subst, cond, nat_lt, length, drop, inl, inr, ◌⊎◌, arith, List, Bool, true, false, Option, Some, None, IfSome}
+use Rattle.std.proofs.Common.{ℕ, ◌<◌, ◌≤◌, ◌≡◌, ◌≢◌, refl, ap, ◌∙◌, sym, subst, length, drop, inl, inr, ◌⊎◌, arith, List, Option, Some, None, IfSome}
 use Rattle.gu_syntax.specs.declared.module.Module.{Module}
 use Rattle.gu_syntax.specs.Encoding.{encoding}
 use Rattle.gu_syntax.specs.Module.{Spells}
 use Rattle.gu_syntax.specs.Nesting.{IsShallow}
-use Rattle.gu_syntax.specs.Reading.{Read, Fault, Item, FlatOpcode, stops, module_at}
+use Rattle.gu_syntax.specs.Reading.{Read, Fault, Item, FlatOpcode, stops}
 use Rattle.gu_syntax.specs.Due.{Due, outside}
 use Rattle.gu_syntax.proofs.Modules.{one_module}
 use Rattle.gu_read_parts.specs.declared.answer.Which.{Which}
@@ -18,7 +18,7 @@ use Rattle.gu_model.specs.ValidFailure.{IsFirstFailure}
 use Rattle.gu_model.proofs.Failures.{failure_is_one, valid_has_none}
 use Rattle.gu_report.specs.declared.status.Status.{Status}
 use Rattle.gu_report.specs.declared.status.Status.TheVariants as S
-use Rattle.wasm_gufa.specs.Answers.{most_written, Accepts, IsMalformed, IsOutside, IsInvalid, IsTooDeep, IsTooLong, IsLimit, AsksFor, IsDue}
+use Rattle.wasm_gufa.specs.Answers.{most_written, IsMalformed, IsOutside, IsTooDeep, IsLimit, AsksFor, IsDue}
 use Rattle.wasm_gufa.specs.Steps.{Says}
 
 -- reading stops at one place, where one item is asked

@@ -1,5 +1,5 @@
 -- What the errors of the steps say of the bytes, and what a module says that was made of them.
-use Rattle.std.proofs.Common.{ℕ, ◌<◌, ◌≤◌, ◌≡◌, ◌≢◌, refl, sym, subst, length, List, Option, Some, None, Result, Ok, Err, IfErr, IsErrAnd, IfSome}
+use Rattle.std.proofs.Common.{ℕ, ◌≤◌, ◌≡◌, ◌≢◌, refl, sym, subst, length, List, Option, Some, None, Result, Ok, Err, IfErr, IsErrAnd, IfSome}
 use Rattle.gu_outside.specs.Outside.{Appended, PrefixAdded}
 use Rattle.gu_syntax.specs.declared.module.Module.{Module}
 use Rattle.gu_syntax.specs.Encoding.{encoding}

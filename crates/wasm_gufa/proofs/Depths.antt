@@ -1,5 +1,5 @@
 -- In a module within the limits no type has more than 63 supertypes above it.
-use Rattle.std.proofs.Common.{ℕ, zero, suc, ◌+◌, ◌<◌, ◌≤◌, ◌≡◌, refl, ap, ◌∙◌, sym, List, [], ◌∷◌, length, get_or, nat_lt, not, cond, Bool, true, false, Option, Some, None, slice_get, arith, ltb-false, inl, inr}
+use Rattle.std.proofs.Common.{ℕ, ◌<◌, ◌≤◌, ◌≡◌, refl, ap, ◌∙◌, sym, List, [], ◌∷◌, length, get_or, nat_lt, not, cond, Bool, true, false, Option, Some, None, arith, ltb-false, inl, inr}
 use Rattle.std.specs.List.{AllByRecursion, range_with_len, position, position_or_len}
 use Rattle.std.proofs.lemmas.Bool.{cases_lt}
 use Rattle.std.proofs.lemmas.Option.{slice_get_past}

@@ -3,7 +3,9 @@
 use super::{HEAD, HEADER, expect, run_on};
 use crate::{Status, Which};
 use std::alloc::{AllocError, Global};
+use std::process::Abort;
 use std::test::Fail;
+use std::thread::Threads;
 
 /// A number of 32 bits in five bytes.
 fn five_bytes(number: u32) -> [u8; 5] {
@@ -57,48 +59,75 @@ fn one_byte_too_many_is_a_limit(rt: HostRuntime) -> Result<(), Fail> {
     Ok(())
 }
 
+/// Asserts that a module of this section alone is refused for a limit.
+fn expect_limit(
+    rt: &(impl Abort + Threads + Sync),
+    alloc: Global,
+    id: u8,
+    content: Content,
+    status: Status,
+    line: &[u8],
+) -> Result<(), Fail> {
+    let mut bytes = Vec::from_slice(alloc, HEADER)?;
+    put_section(alloc, &mut bytes, id, content)?;
+    let ran = run_on(rt, alloc, bytes)?;
+    expect(rt, &ran, status, b"", line);
+    Ok(())
+}
+
 #[test]
-fn counted_limits_are_told(rt: HostRuntime) -> Result<(), Fail> {
-    // A section, the limit that its content exceeds, what is told of it, and the line.
-    let rows: [(u8, Content, Which, u64, &[u8]); 6] = [
+fn types_are_limited(rt: HostRuntime) -> Result<(), Fail> {
+    let content = Content {
+        front: b"\xC1\x84\x3D",
+        item: b"\x5F\x00",
+        times: 1_000_001,
+        back: b"",
+    };
+    let status = Status::Limit {
+        which: Which::Types,
+        at: 1_000_001,
+    };
+    let line = b"wasm-gufa: limit types at 1000001\n";
+    expect_limit(&rt, rt.alloc(), 1, content, status, line)
+}
+
+#[test]
+fn functions_are_limited(rt: HostRuntime) -> Result<(), Fail> {
+    let content = Content {
+        front: b"\xC1\x84\x3D",
+        item: b"\x00\x00\x00\x00",
+        times: 1_000_001,
+        back: b"",
+    };
+    let status = Status::Limit {
+        which: Which::Funcs,
+        at: 1_000_001,
+    };
+    let line = b"wasm-gufa: limit functions at 1000001\n";
+    expect_limit(&rt, rt.alloc(), 2, content, status, line)
+}
+
+#[test]
+fn globals_are_limited(rt: HostRuntime) -> Result<(), Fail> {
+    let content = Content {
+        front: b"\xC1\x84\x3D",
+        item: b"\x00\x00\x03\x7F\x00",
+        times: 1_000_001,
+        back: b"",
+    };
+    let status = Status::Limit {
+        which: Which::Globals,
+        at: 1_000_001,
+    };
+    let line = b"wasm-gufa: limit globals at 1000001\n";
+    expect_limit(&rt, rt.alloc(), 2, content, status, line)
+}
+
+#[test]
+fn parts_of_types_are_limited(rt: HostRuntime) -> Result<(), Fail> {
+    // The content of a type section, the limit that it exceeds, the index of the type, and the line.
+    let rows: [(Content, Which, u64, &[u8]); 3] = [
         (
-            1,
-            Content {
-                front: b"\xC1\x84\x3D",
-                item: b"\x5F\x00",
-                times: 1_000_001,
-                back: b"",
-            },
-            Which::Types,
-            1_000_001,
-            b"wasm-gufa: limit types at 1000001\n",
-        ),
-        (
-            2,
-            Content {
-                front: b"\xC1\x84\x3D",
-                item: b"\x00\x00\x00\x00",
-                times: 1_000_001,
-                back: b"",
-            },
-            Which::Funcs,
-            1_000_001,
-            b"wasm-gufa: limit functions at 1000001\n",
-        ),
-        (
-            2,
-            Content {
-                front: b"\xC1\x84\x3D",
-                item: b"\x00\x00\x03\x7F\x00",
-                times: 1_000_001,
-                back: b"",
-            },
-            Which::Globals,
-            1_000_001,
-            b"wasm-gufa: limit globals at 1000001\n",
-        ),
-        (
-            1,
             Content {
                 front: b"\x02\x5F\x00\x60\xE9\x07",
                 item: b"\x7F",
@@ -110,7 +139,6 @@ fn counted_limits_are_told(rt: HostRuntime) -> Result<(), Fail> {
             b"wasm-gufa: limit parameters at 1\n",
         ),
         (
-            1,
             Content {
                 front: b"\x01\x60\x00\xE9\x07",
                 item: b"\x7F",
@@ -122,7 +150,6 @@ fn counted_limits_are_told(rt: HostRuntime) -> Result<(), Fail> {
             b"wasm-gufa: limit results at 0\n",
         ),
         (
-            1,
             Content {
                 front: b"\x01\x5F\x91\x4E",
                 item: b"\x7F\x00",
@@ -134,11 +161,15 @@ fn counted_limits_are_told(rt: HostRuntime) -> Result<(), Fail> {
             b"wasm-gufa: limit fields at 0\n",
         ),
     ];
-    for (id, content, which, at, line) in rows {
-        let mut bytes = Vec::from_slice(rt.alloc(), HEADER)?;
-        put_section(rt.alloc(), &mut bytes, id, content)?;
-        let ran = run_on(&rt, rt.alloc(), bytes)?;
-        expect(&rt, &ran, Status::Limit { which, at }, b"", line);
+    for (content, which, at, line) in rows {
+        expect_limit(
+            &rt,
+            rt.alloc(),
+            1,
+            content,
+            Status::Limit { which, at },
+            line,
+        )?;
     }
     Ok(())
 }
