@@ -1,0 +1,13 @@
+pub mod Agreeing
+pub mod Local
+pub mod Nothing
+pub mod Covering
+pub mod Lists
+pub mod Converting
+pub mod Numbering
+pub mod Given
+pub mod Monotone
+pub mod Rounds
+pub mod Climbing
+pub mod Reached
+pub mod Lattice

@@ -1,0 +1,6 @@
+pub mod Cells
+pub mod Over
+pub mod Gives
+pub mod Solutions
+pub mod States
+pub mod Laws
