@@ -1,5 +1,5 @@
 -- Codes give back their contents.
-use Rattle.std.proofs.Common.{◌≡◌, ℕ, zero, suc, ◌+◌, ◌-◌, ◌*◌, ◌/◌, ◌%◌, ◌^◌, ◌<◌, ◌≤◌, Bool, true, false, List, [], ◌∷◌, length, get_or, slice_get, slice_index, nat_eq, nat_lt, if◌then◌else◌, Option, Some, None, option_map, unwrap_or, position, Contains, refl, ap, ap₂, sym, ◌∙◌, subst, arith, lt-ltb, le-ltb, eqb-true, eq-eqb, true≢false}
+use Rattle.std.proofs.Common.{◌≡◌, ℕ, zero, suc, ◌+◌, ◌-◌, ◌*◌, ◌/◌, ◌%◌, ◌^◌, ◌<◌, ◌≤◌, Bool, true, false, List, [], ◌∷◌, length, get_or, slice_get, slice_index, nat_eq, if◌then◌else◌, Some, option_map, unwrap_or, Contains, refl, ap, ap₂, sym, ◌∙◌, arith, lt-ltb, le-ltb, eqb-true, eq-eqb}
 use Rattle.gu_types.specs.declared.types.Abs.{Abs}
 use Rattle.gu_types.specs.declared.types.Abs.TheVariants as A
 use Rattle.gu_types.specs.declared.types.HeapType.{HeapType}
@@ -12,7 +12,7 @@ use Rattle.gu_contents.specs.declared.content.Core.TheVariants.{Bottom, Func, Gl
 use Rattle.gu_contents.specs.declared.content.Content.{Content}
 use Rattle.gu_contents.specs.declared.content.Content.TheVariants.{Empty, I32, I64, NumGlobal, Many, Ref, Top}
 use Rattle.gu_contents.specs.Belongs.{IsListed, IsShallow, IsShallowCore}
-use Rattle.gu_contents.specs.Codes.{tagged, heap_number, place_in, core_code, code, word, kinds, heap_at, cone_at, content_at, content, HeapHasWords, CoreHasWords, HasWords}
+use Rattle.gu_contents.specs.Codes.{heap_number, place_in, core_code, code, word, kinds, heap_at, cone_at, content_at, content, HeapHasWords, CoreHasWords, HasWords}
 use Rattle.gu_contents.specs.Laws.{CodesAreExact}
 use Rattle.gu_contents.proofs.Heaps.{At, here, further, at, Found}
 

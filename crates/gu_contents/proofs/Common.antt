@@ -1,5 +1,5 @@
 -- The first heap type on a line that another is a subtype of is the least common supertype.
-use Rattle.std.proofs.Common.{◌≡◌, ℕ, zero, suc, ◌+◌, ◌<◌, Bool, true, false, cond, List, [], ◌∷◌, map, length, slice_get, Option, Some, None, option_map, is_some, IfSome, MatchOption, find, refl, ap, sym, ◌∙◌, subst, arith, true≢false}
+use Rattle.std.proofs.Common.{◌≡◌, ℕ, zero, suc, ◌<◌, Bool, true, false, cond, List, [], ◌∷◌, map, length, Option, Some, None, option_map, is_some, IfSome, MatchOption, find, refl, ap, sym, ◌∙◌, subst, arith, true≢false}
 use Rattle.gu_types.specs.declared.types.Abs.{Abs}
 use Rattle.gu_types.specs.declared.types.Abs.TheVariants as A
 use Rattle.gu_types.specs.declared.types.HeapType.{HeapType}

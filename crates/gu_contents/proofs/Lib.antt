@@ -13,3 +13,4 @@ pub mod Belonging
 pub mod Cones
 pub mod Coded
 pub mod Listed
+pub mod Law

@@ -14,7 +14,7 @@ use Rattle.gu_contents.specs.Contents.{refs, eq_core, eq_content}
 use Rattle.gu_contents.specs.Join.{join_cores, refs_or_top, join_numbers, join}
 use Rattle.gu_contents.specs.Whole.{whole, all}
 use Rattle.gu_contents.specs.Meets.{meet, filter, core_minus, minus, test_of, test, is_null, apart, equal_refs, equal_cores, equal}
-use Rattle.gu_contents.specs.Numbers.{pack, extend, extend_literal}
+use Rattle.gu_contents.specs.Numbers.{pack, extend}
 use Rattle.gu_contents.specs.Belongs.{IsListed}
 use Rattle.gu_contents.specs.Laws.{AnswersAreListed}
 

@@ -102,13 +102,7 @@ pub fn join(f: &Facts, a: Content, b: Content) -> Content
             Content::Empty => a,
             Content::Ref(_, _) => Content::Top,
             Content::Top => Content::Top,
-            _ => {
-                if same_content(a, b) {
-                    a
-                } else {
-                    Content::Many
-                }
-            }
+            _ => { if same_content(a, b) { a } else { Content::Many } }
         },
     }
 }

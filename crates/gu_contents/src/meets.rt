@@ -129,7 +129,7 @@ fn meet(f: &Facts, core: Core, to: HeapType) -> Core
 }
 
 /// What a cast to the reference type `to` lets through of values with the content (core
-/// specification 3.0, 4.6.4 Reference Instructions, `ref.cast`). `Empty` where it is nothing.
+/// specification 3.0, 4.6 Instructions, `ref.cast`). `Empty` where it is nothing.
 #[tactic(auto, unfolding(crate::specs::Meets::filter))]
 pub fn filter(f: &Facts, a: Content, to: RefType) -> Content
     requires content { Belongs f.now a }
@@ -179,7 +179,7 @@ fn test_of(a: Content, through: Content) -> Content
 }
 
 /// What `ref.test` to the reference type `to` answers of values with the content (core
-/// specification 3.0, 4.6.4 Reference Instructions). `Many` where it may be both.
+/// specification 3.0, 4.6 Instructions, `ref.test`). `Many` where it may be both.
 #[tactic(auto, unfolding(crate::specs::Meets::test))]
 pub fn test(f: &Facts, a: Content, to: RefType) -> Content
     requires content { Belongs f.now a }
@@ -266,8 +266,8 @@ fn equal_cores(f: &Facts, null: bool, one: Core, other_null: bool, other: Core) 
     }
 }
 
-/// What `ref.eq` answers of values with the contents (core specification 3.0, 4.6.4 Reference
-/// Instructions): `Empty` where one has none, and `Many` where it may be both.
+/// What `ref.eq` answers of values with the contents (core specification 3.0, 4.6
+/// Instructions, `ref.eq`): `Empty` where one has none, and `Many` where it may be both.
 #[tactic(auto, unfolding(crate::specs::Meets::equal))]
 pub fn equal(f: &Facts, a: Content, b: Content) -> Content
     requires first { Belongs f.now a }

@@ -9,8 +9,8 @@ use crate::content::{Content, Core};
 use gu_types::Storage;
 
 /// The content of a field or an element that is stored as `s` where a value with the content is
-/// stored there: its low bits, where it is packed (core specification 3.0, 4.2.9 Aggregate
-/// Instances, packed fields).
+/// stored there: its low bits, where it is packed (core specification 3.0, 4.2 Runtime
+/// Structure, packed fields).
 #[tactic(auto, unfolding(crate::specs::Numbers::pack))]
 pub fn pack(s: Storage, a: Content) -> Content
     ensures { result ≡ packed.pack s a }
@@ -35,11 +35,7 @@ fn extend_byte(v: u32) -> u32
     ensures { result ≡ packed.signed 7 (packed.low 8 v) }
 {
     let low = v % 256;
-    if low < 128 {
-        low
-    } else {
-        low + 0xFFFF_FF00
-    }
+    if low < 128 { low } else { low + 0xFFFF_FF00 }
 }
 
 /// A number of 16 bits as an i32 with the same value, the highest bit its sign.
@@ -47,16 +43,12 @@ fn extend_half(v: u32) -> u32
     ensures { result ≡ packed.signed 15 (packed.low 16 v) }
 {
     let low = v % 65536;
-    if low < 32768 {
-        low
-    } else {
-        low + 0xFFFF_0000
-    }
+    if low < 32768 { low } else { low + 0xFFFF_0000 }
 }
 
 /// The content of a value that is read from a field or an element that is stored as `s`, by
-/// sign-extension where it is `signed`, else by zero-extension (core specification 3.0, 4.2.9
-/// Aggregate Instances, packed fields).
+/// sign-extension where it is `signed`, else by zero-extension (core specification 3.0, 4.2
+/// Runtime Structure, packed fields).
 #[tactic(auto, unfolding(crate::specs::Numbers::extend))]
 pub fn extend(s: Storage, signed: bool, a: Content) -> Content
     ensures { result ≡ packed.extend s signed a }
@@ -127,11 +119,7 @@ pub fn rank(a: Content) -> u32
         Content::Many => 2,
         Content::Ref(null, core) => {
             let rest = core_rank(core);
-            if null {
-                1 + rest
-            } else {
-                rest
-            }
+            if null { 1 + rest } else { rest }
         }
         Content::Top => 70,
     }

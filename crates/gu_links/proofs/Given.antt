@@ -25,7 +25,7 @@ use Rattle.gu_links.specs.Over.{over, is_over, has_slot, callees, is_callee, nam
 use Rattle.gu_links.specs.Gives.{Contents, Asked, gives, non_null, internalised, externalised, slot_of, joined, into_slots, call}
 use Rattle.gu_links.specs.Solutions.{Fits, IsSystem, IsOf}
 use Rattle.gu_links.proofs.Lists.{run_below, all_map_kept_from, all_kept_from}
-use Rattle.gu_links.proofs.Numbering.{slot_within, param_within}
+use Rattle.gu_links.proofs.Within.{slot_within, param_within}
 use Rattle.gu_links.proofs.Converting.{non_null_belongs, non_null_listed, internalised_belongs, internalised_listed, externalised_belongs, externalised_listed}
 
 -- what holds of contents holds of all that is made of them

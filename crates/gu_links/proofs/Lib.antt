@@ -4,10 +4,12 @@ pub mod Nothing
 pub mod Covering
 pub mod Lists
 pub mod Converting
-pub mod Numbering
+pub mod Within
 pub mod Given
 pub mod Monotone
 pub mod Rounds
 pub mod Climbing
 pub mod Reached
-pub mod Lattice
+pub mod Knowing
+pub mod Finding
+pub mod Closing

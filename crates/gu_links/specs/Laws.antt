@@ -1,11 +1,12 @@
 -- What holds of all systems of links.
-use Rattle.std.specs.Prelude.{ℕ, ◌≡◌, ◌↔◌, List, length, All}
+use Rattle.std.specs.Prelude.{ℕ, ◌<◌, ◌≡◌, ◌↔◌, Contains, List, length, All}
 use Rattle.gu_contents.specs.declared.content.Content.{Content}
 use Rattle.gu_contents.specs.declared.content.Content.TheVariants.{Empty}
 use Rattle.gu_contents.specs.declared.facts.Facts.{Facts}
 use Rattle.gu_links.specs.declared.link.Link.{Link}
 use Rattle.gu_links.specs.Gives.{Contents, Asked, gives, reads, IsRoot}
-use Rattle.gu_links.specs.Solutions.{at, IsOpen, IsClosed, Solves, IsUnderAll, Least, IsOf, IsSystem}
+use Rattle.gu_links.specs.Solutions.{at, AllBelong, IsBelow, IsOpen, IsClosed, Solves, IsUnderAll, Least, IsOf, IsMet, IsSystem}
+use Rattle.gu_links.specs.Reading.{Known, Agrees, Suffices, shown}
 use Rattle.gu_links.specs.States.{CoreState}
 
 -- contents agree on some cells
@@ -20,10 +21,28 @@ pub record IsSameOn (f : Facts) (links : List Link) (link : Link) (x y : Content
 abbrev pub LinksAreLocal : Type 0
 LinksAreLocal = (f : Facts) (links : List Link) (link : Link) (x y : Contents) → Agree (reads f links link x) x y → IsSameOn f links link x y
 
+-- What is known of all cells on which a link rests on what is known tells of all contents that have it: on which cells the
+-- link rests, and what it asks for
+abbrev pub KnownIsEnough : Type 0
+KnownIsEnough = (f : Facts) (links : List Link) (link : Link) (known : Known) (x : Contents) → Agrees known x → Suffices f links link known → IsSameOn f links link (shown known) x
+
 -- a link that is no root asks for nothing, or for nothing to be joined, where there is nothing in each cell on which it
 -- rests
 abbrev pub LinksOfNothing : Type 0
 LinksOfNothing = (f : Facts) (links : List Link) (link : Link) (x : Contents) → (IsRoot link → ⊥) → All (λ c. x c ≡ Empty) (reads f links link x) → All (λ (asked : Asked). asked.1 ≡ Empty) (gives f links link x)
+
+-- a join is one of a system: its cell is one of its cells, and its content is of the system
+pub record IsProper (f : Facts) (longs : List ℕ) (count : ℕ) (asked : Asked) : Type 0 where
+  pub cell : asked.0 < count
+  pub content : IsOf f longs asked.1
+
+-- where all contents are of the system, all that its links ask for is
+abbrev pub AskedIsProper : Type 0
+AskedIsProper = (f : Facts) (longs : List ℕ) (count : ℕ) (links : List Link) → IsSystem f longs count links → (link : Link) → Contains links link → (x : Contents) → ((c : ℕ) → IsOf f longs (x c)) → All (IsProper f longs count) (gives f links link x)
+
+-- where cells have at most what a solution has, the solution meets all that the links ask for
+abbrev pub SolutionsMeet : Type 0
+SolutionsMeet = (f : Facts) (longs : List ℕ) (count : ℕ) (links : List Link) → IsSystem f longs count links → (link : Link) → Contains links link → (x y : Contents) → AllBelong f x → AllBelong f y → IsBelow f x y → Solves f links y → All (IsMet f y) (gives f links link x)
 
 -- a system has a least solution, as a list with one content for each cell, all of them of the system
 pub record SomeLeast (f : Facts) (longs : List ℕ) (count : ℕ) (links : List Link) : Type 0 where

@@ -1,12 +1,28 @@
 //! Laws on links, for all systems. Each is the contract of a function that does nothing.
-ghost use Rattle.gu_links.specs.Laws.{LinksAreLocal, LinksOfNothing, LeastExists, LeastIsOne, ClosedIsNotOpen, CoreStatesStayBelow, SolvedCoreStateIsLeast};
+ghost use Rattle.gu_links.specs.Reading.{ReadersAreFound};
+ghost use Rattle.gu_links.specs.Laws.{LinksAreLocal, KnownIsEnough, LinksOfNothing, AskedIsProper, SolutionsMeet, LeastExists, LeastIsOne, ClosedIsNotOpen, CoreStatesStayBelow, SolvedCoreStateIsLeast};
 
 /// Contents that agree on the cells on which a link rests have the same such cells, and the link
-/// asks for the same. A link that is no root asks for nothing to be joined where there is nothing
-/// in each cell on which it rests.
+/// asks for the same. So what is known of all cells on which a link rests on what is known tells
+/// what it asks for. A link that is no root asks for nothing to be joined where there is nothing in
+/// each cell on which it rests.
 pub fn links_are_local()
     ensures same { LinksAreLocal }
+    ensures known { KnownIsEnough }
     ensures nothing { LinksOfNothing }
+{}
+
+/// Each link that reads a cell on some contents names the cell, or is found by way of a type that
+/// stands at most 63 declared supertypes above the cell's own.
+pub fn readers_are_found()
+    ensures { ReadersAreFound }
+{}
+
+/// What a link of a system asks for is of the system where all contents are. Where cells have at
+/// most what a solution has, the solution meets all that the links ask for.
+pub fn links_are_monotone()
+    ensures proper { AskedIsProper }
+    ensures met { SolutionsMeet }
 {}
 
 /// Every system of links has a least solution, with one content for each cell, and no other.

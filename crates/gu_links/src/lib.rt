@@ -3,5 +3,10 @@
 
 pub mod laws;
 mod link;
+mod numbering;
 
 pub use link::Link;
+pub use numbering::Numbering;
+
+#[cfg(test)]
+mod tests;

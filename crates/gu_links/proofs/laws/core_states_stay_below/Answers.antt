@@ -1,5 +1,5 @@
 use Rattle.gu_contents.proofs.Belonging.{answers_belong}
-use Rattle.gu_links.proofs.Lattice.{lattice}
+use Rattle.gu_contents.proofs.Law.{lattice}
 use Rattle.gu_links.proofs.Reached.{states_below, solved_state, closed_is_not_open}
 use Rattle.gu_links.proofs.laws.core_states_stay_below.Goals as goal
 

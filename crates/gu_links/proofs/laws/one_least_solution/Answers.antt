@@ -1,6 +1,6 @@
 use Rattle.gu_contents.proofs.Belonging.{answers_belong}
 use Rattle.gu_contents.proofs.Listed.{answers_listed}
-use Rattle.gu_links.proofs.Lattice.{lattice}
+use Rattle.gu_contents.proofs.Law.{lattice}
 use Rattle.gu_links.proofs.Climbing.{some_least, least_is_one}
 use Rattle.gu_links.proofs.laws.one_least_solution.Goals as goal
 

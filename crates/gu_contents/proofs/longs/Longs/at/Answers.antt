@@ -1,4 +1,4 @@
-use Rattle.std.proofs.Common.{List, ℕ, slice_index, ap, sym, ◌∙◌, unwrap_or}
+use Rattle.std.proofs.Common.{List, ℕ, slice_index, ap, ◌∙◌, unwrap_or}
 use Rattle.gu_contents.proofs.Coded.{read_or_zero}
 use Rattle.gu_contents.proofs.longs.Longs.at.Goals as goal
 

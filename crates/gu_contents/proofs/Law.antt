@@ -1,4 +1,4 @@
--- The contents are a lattice, for all facts.
+-- The contents are a lattice, on which all operations are monotone.
 use Rattle.gu_contents.specs.declared.facts.Facts.{Facts}
 use Rattle.gu_contents.specs.Laws.{OperationsAreMonotone, ContentsAreALattice}
 use Rattle.gu_contents.specs.Meets.{filter, minus, test, is_null, equal}

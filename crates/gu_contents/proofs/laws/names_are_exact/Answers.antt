@@ -1,6 +1,6 @@
 use Rattle.gu_contents.proofs.Heights.{least_exact}
 use Rattle.gu_contents.proofs.Common.{common_exact}
-use Rattle.gu_contents.proofs.exact.names_are_exact.Goals as goal
+use Rattle.gu_contents.proofs.laws.names_are_exact.Goals as goal
 
 pub returns-clause-least : goal.returns-clause-least
 returns-clause-least c = least_exact
