@@ -1,15 +1,14 @@
 -- What one more entry, and contents that rose, do to what was seen and to what is fresh.
-use Rattle.std.proofs.Common.{ℕ, ◌≡◌, ◌≢◌, ◌⊎◌, Bool, true, false, List, [], ◌∷◌, ◌++◌, eqb, cond, sym, subst, refl, ap, ◌∙◌, inl, inr, ⊎_elim, eq-eqb, arith}
+use Rattle.std.proofs.Common.{ℕ, ◌≡◌, ◌≢◌, Bool, true, false, List, [], ◌∷◌, eqb, cond, sym, subst, refl, ◌∙◌, inl, inr, ⊎_elim, eq-eqb, arith}
 use Rattle.std.proofs.lemmas.Bool.Decides.{nat_tests}
 use Rattle.gu_contents.specs.declared.content.Content.{Content}
 use Rattle.gu_contents.specs.declared.facts.Facts.{Facts}
-use Rattle.gu_contents.specs.Order.{AtMost, at_most}
+use Rattle.gu_contents.specs.Order.{AtMost}
 use Rattle.gu_contents.specs.Join.{join}
 use Rattle.gu_cells.specs.declared.record.Entry.{Entry}
 use Rattle.gu_cells.specs.declared.record.Entry.TheVariants.{Read, Join}
-use Rattle.gu_cells.specs.Record.{BelongsTo, EntryBelongs, RecordBelongs, RecordsBelong, cell_of, shown, seen, CoversSeen, CoversAll, is_among, Raises, IsCurrent, Fresh, SomeFresh}
-use Rattle.gu_cells.specs.Rule.{looked}
-use Rattle.gu_cells.proofs.Lattice.{Laws, join_belongs, shown_belongs, seen_belongs}
+use Rattle.gu_cells.specs.Record.{BelongsTo, RecordBelongs, RecordsBelong, cell_of, shown, seen, CoversSeen, CoversAll, is_among, IsCurrent, Fresh, SomeFresh}
+use Rattle.gu_cells.proofs.Lattice.{Laws, shown_belongs, seen_belongs}
 
 pub eqb_true : (a b : ℕ) → eqb a b ≡ true → a ≡ b
 eqb_true a b e = grind (arith, nat_tests)

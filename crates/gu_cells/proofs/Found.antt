@@ -1,5 +1,5 @@
 -- What loads and exchanges find and note, as the functions that make them tell it.
-use Rattle.std.proofs.Common.{ℕ, ◌≡◌, ◌≢◌, ◌+◌, ◌-◌, ◌<◌, Bool, true, false, eqb, cond, List, [], ◌∷◌, suc, sym, refl, ap, ◌∙◌, subst, arith, eq-eqb, ne_eqb}
+use Rattle.std.proofs.Common.{ℕ, ◌≡◌, ◌≢◌, ◌+◌, ◌-◌, ◌<◌, Bool, cond, List, ◌∷◌, suc, sym, ap, ◌∙◌, subst, arith, eq-eqb, ne_eqb}
 use mathlib.Core.Option.{none}
 use Rattle.atomic_table.specs.Table.{Me, step}
 use Rattle.gu_contents.specs.declared.content.Content.{Content}
@@ -7,10 +7,10 @@ use Rattle.gu_contents.specs.declared.facts.Facts.{Facts}
 use Rattle.gu_contents.specs.Order.{AtMost, at_most}
 use Rattle.gu_contents.specs.Codes.{code, content}
 use Rattle.gu_cells.specs.declared.record.Entry.{Entry}
-use Rattle.gu_cells.specs.declared.record.Entry.TheVariants.{Read, Join}
+use Rattle.gu_cells.specs.declared.record.Entry.TheVariants.{Join}
 use Rattle.gu_cells.specs.declared.record.View.{View}
 use Rattle.gu_cells.specs.Record.{at, BelongsTo, RecordBelongs, seen}
-use Rattle.gu_cells.specs.Rule.{word_ceiling, IsWord, Finds, Looks, exchanged, Exchanges, looked, IsFound}
+use Rattle.gu_cells.specs.Rule.{word_ceiling, IsWord, Finds, Looks, Exchanges, looked, IsFound}
 use Rattle.gu_cells.proofs.Lattice.{Laws}
 use Rattle.gu_cells.proofs.Entries.{looked_sees, looked_belongs}
 use Rattle.gu_cells.proofs.Words.{cell_ceiling}

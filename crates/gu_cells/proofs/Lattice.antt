@@ -1,9 +1,8 @@
 -- What is used of the lattice of contents.
-use Rattle.std.proofs.Common.{ℕ, ◌≡◌, Bool, true, false, List, [], ◌∷◌, eqb, cond, sym, subst}
+use Rattle.std.proofs.Common.{ℕ, ◌≡◌, Bool, true, false, List, [], ◌∷◌, eqb, cond}
 use Rattle.gu_contents.specs.declared.content.Content.{Content}
-use Rattle.gu_contents.specs.declared.content.Content.TheVariants.{Empty}
 use Rattle.gu_contents.specs.declared.facts.Facts.{Facts}
-use Rattle.gu_contents.specs.Order.{AtMost, at_most}
+use Rattle.gu_contents.specs.Order.{AtMost}
 use Rattle.gu_contents.specs.Join.{join}
 use Rattle.gu_contents.specs.Belongs.{Belongs, IsListed}
 use Rattle.gu_contents.specs.Laws.{IsOrder, JoinIsLeast, RanksRise, AnswersBelong}
@@ -11,6 +10,7 @@ use Rattle.gu_contents.proofs.OrderLaw.{is_order}
 use Rattle.gu_contents.proofs.JoinLaw.{join_is_least}
 use Rattle.gu_contents.proofs.Ranks.{ranks_rise}
 use Rattle.gu_contents.proofs.Belonging.{answers_belong}
+use Rattle.gu_contents.proofs.Listed.{answers_listed}
 use Rattle.gu_cells.specs.declared.record.Entry.{Entry}
 use Rattle.gu_cells.specs.declared.record.Entry.TheVariants.{Read, Join}
 use Rattle.gu_cells.specs.Record.{BelongsTo, EntryBelongs, RecordBelongs, cell_of, shown, seen}
@@ -23,8 +23,8 @@ pub record Laws (f : Facts) (longs : List ℕ) : Type 0 where
   pub listed : (a b : Content) → IsListed longs a → IsListed longs b → IsListed longs (join f a b)
 
 -- they hold of all facts
-pub the_laws : (f : Facts) (longs : List ℕ) → ⊥ → Laws f longs
-the_laws f longs stub = record { order = is_order f; joins = join_is_least f; ranks = ranks_rise f; answers = answers_belong f; listed = absurd stub }
+pub the_laws : (f : Facts) (longs : List ℕ) → Laws f longs
+the_laws f longs = record { order = is_order f; joins = join_is_least f; ranks = ranks_rise f; answers = answers_belong f; listed = (answers_listed f longs).join_is }
 
 module _ {f : Facts} {longs : List ℕ} (laws : Laws f longs) where
   pub join_belongs : (a b : Content) → BelongsTo f longs a → BelongsTo f longs b → BelongsTo f longs (join f a b)

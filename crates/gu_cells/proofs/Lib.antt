@@ -6,3 +6,6 @@ pub mod Steps
 pub mod Splits
 pub mod Found
 pub mod Tries
+pub mod Seats
+pub mod Closing
+pub mod Topped

@@ -1,26 +1,24 @@
 -- The table at the start, and splitting and joining seats, keep the rule. At the end the records settle the words.
-use Rattle.std.proofs.Common.{ℕ, zero, suc, ◌≡◌, ◌≢◌, ◌⊎◌, ◌+◌, ◌-◌, ◌<◌, ◌≤◌, Bool, true, false, cond, List, [], ◌∷◌, ◌++◌, length, get_or, set, sym, refl, ap, ◌∙◌, subst, inl, inr, ⊎_elim, arith}
+use Rattle.std.proofs.Common.{ℕ, zero, suc, ◌≡◌, ◌⊎◌, ◌<◌, ◌≤◌, true, false, List, [], ◌∷◌, ◌++◌, length, get_or, set, sym, refl, ap, ◌∙◌, subst, inl, inr, ⊎_elim, arith}
 use mathlib.Core.Logic.{dite}
-use mathlib.Core.Option.{Option, some, some-ne-none}
+use mathlib.Core.Option.{some, some-ne-none}
 use native.Mathlib.Decide.{ℕ_discrete}
 use lib.ListN.{get_elem?}
-use Rattle.atomic_table.specs.Table.{State, Me, opening, Splits, Joins}
+use Rattle.atomic_table.specs.Table.{opening, Splits, Joins}
 use Rattle.atomic_table.proofs.Lists.{at_set, set_else, at_snoc, at_longer}
 use Rattle.gu_contents.specs.declared.content.Content.{Content}
 use Rattle.gu_contents.specs.declared.content.Content.TheVariants.{Empty}
 use Rattle.gu_contents.specs.declared.facts.Facts.{Facts}
 use Rattle.gu_contents.specs.Order.{AtMost}
 use Rattle.gu_contents.specs.Codes.{code, content}
-use Rattle.gu_cells.specs.declared.record.Entry.{Entry}
 use Rattle.gu_cells.specs.declared.record.Part.{Part}
 use Rattle.gu_cells.specs.declared.record.View.{View}
 use Rattle.gu_cells.specs.declared.sizes.Sizes.{Sizes}
-use Rattle.gu_cells.specs.Record.{BelongsTo, RecordsBelong, CoversSeen, CoversAll, is_among, SomeFresh, Settled}
-use Rattle.gu_cells.specs.Rule.{now_of, word_ceiling, IsWord, parts, records, times, held, total, once, IsSeat, IsAlone, HasFresh, Kept, first_view, spent_view, counted, new_seat, both}
+use Rattle.gu_cells.specs.Record.{BelongsTo, RecordsBelong, CoversAll, SomeFresh, Settled}
+use Rattle.gu_cells.specs.Rule.{now_of, word_ceiling, IsWord, parts, records, times, held, total, once, IsSeat, IsAlone, Kept, first_view, spent_view, counted, new_seat, both}
 use Rattle.gu_cells.proofs.Lattice.{Laws}
 use Rattle.gu_cells.proofs.Counts.{total_set, total_snoc, two_within, times_append, held_live, held_own, once_few, once_some, once_next, first_once}
 use Rattle.gu_cells.proofs.Steps.{St, same_view, set_at}
-
 
 below_append : (f : Facts) (ps qs : List Part) (z : ℕ → Content) → CoversAll f (records ps) z → CoversAll f (records qs) z → CoversAll f (records (ps ++ qs)) z
 below_append f [] qs z h k = k
@@ -42,7 +40,7 @@ module _ {f : Facts} {longs : List ℕ} (laws : Laws f longs) (ceilings : List C
   abbrev Keeps : St → Type 0
   Keeps = Kept f longs ceilings sizes
 
-  nothing : content longs 0 ≡ Empty
+  pub nothing : content longs 0 ≡ Empty
   unfolding content
   nothing = refl
 
@@ -62,7 +60,7 @@ module _ {f : Facts} {longs : List ℕ} (laws : Laws f longs) (ceilings : List C
   pub starts : (words : List ℕ) → length words ≡ suc sizes.cells → ((i : ℕ) → get_or words i 0 ≡ 0) → 1 ≤ sizes.seats → Keeps (opening words [] first_view)
   starts words long zeros some_seats =
       let only : (j : ℕ) (u : View) → IsSeat (first_view ∷ []) j u → (j ≡ 0) × (first_view ≡ u) =
-          λ j u is. ⊎_elim (λ t. absurd (some-ne-none u (sym t))) (λ e. (first_place j u is.stands, e)) (at_snoc [] first_view u j is.stands) in
+      λ j u is. ⊎_elim (λ t. absurd (some-ne-none u (sym t))) (λ e. (first_place j u is.stands, e)) (at_snoc [] first_view u j is.stands) in
       record {
         wide = long;
         words = λ i. subst (IsWord f longs (word_ceiling ceilings i)) (sym (zeros i)) (zero_word (word_ceiling ceilings i));
@@ -106,10 +104,10 @@ module _ {f : Facts} {longs : List ℕ} (laws : Laws f longs) (ceilings : List C
       let seat : IsSeat s.views id v = record { stands = me; live = live } in
       let here : get_elem? vs id ≡ some (counted v) = set_at s.views id v (counted v) me in
       let side : (j : ℕ) (u : View) → IsSeat (vs ++ new_seat v ∷ []) j u → (((j ≡ id) × (counted v ≡ u)) ⊎ IsSeat s.views j u) ⊎ (new_seat v ≡ u) =
-          λ j u is. ⊎_elim
-          (λ t. inl (⊎_elim (λ p. inl (p.0, p.1)) (λ p. inr (record { stands = p.1; live = is.live })) (at_set s.views id j (counted v) u t)))
-          (λ t. inr t)
-          (at_snoc vs (new_seat v) u j is.stands) in
+      λ j u is. ⊎_elim
+      (λ t. inl (⊎_elim (λ p. inl (p.0, p.1)) (λ p. inr (record { stands = p.1; live = is.live })) (at_set s.views id j (counted v) u t)))
+      (λ t. inr t)
+      (at_snoc vs (new_seat v) u j is.stands) in
       record {
         wide = k.wide;
         words = k.words;
@@ -163,9 +161,9 @@ module _ {f : Facts} {longs : List ℕ} (laws : Laws f longs) (ceilings : List C
       let here : get_elem? vs id ≡ some b = set_else one other id spent_view (λ d. apart (sym d)) ∙ set_at s.views id v b me in
       let gone : (u : View) → spent_view ≡ u → u.spent ≡ false → ⊥ = λ u p q. let bad : true ≡ false = ap (λ (x : View). x.spent) p ∙ q in cc in
       let side : (j : ℕ) (u : View) → IsSeat vs j u → ((j ≡ id) × (b ≡ u)) ⊎ IsSeat s.views j u =
-          λ j u is. ⊎_elim (λ t. absurd (gone u t.1 is.live))
-          (λ t. ⊎_elim (λ p. inl (p.0, p.1)) (λ p. inr (record { stands = p.1; live = is.live })) (at_set s.views id j b u t.1))
-          (at_set one other j spent_view u is.stands) in
+      λ j u is. ⊎_elim (λ t. absurd (gone u t.1 is.live))
+      (λ t. ⊎_elim (λ p. inl (p.0, p.1)) (λ p. inr (record { stands = p.1; live = is.live })) (at_set s.views id j b u t.1))
+      (at_set one other j spent_view u is.stands) in
       let mine = k.below id v seat in
       let my_own = k.belong id v seat in
       record {

@@ -1,5 +1,5 @@
 -- Loads and exchanges keep the rule.
-use Rattle.std.proofs.Common.{ℕ, zero, suc, ◌≡◌, ◌≢◌, ◌⊎◌, ◌+◌, ◌-◌, ◌<◌, ◌≤◌, Bool, true, false, eqb, cond, List, [], ◌∷◌, ◌++◌, length, get_or, set, sym, refl, ap, ◌∙◌, subst, inl, inr, ⊎_elim, arith, eq-eqb, ne_eqb, length-set}
+use Rattle.std.proofs.Common.{ℕ, zero, suc, ◌≡◌, ◌≢◌, ◌⊎◌, ◌-◌, ◌<◌, Bool, true, false, eqb, cond, List, [], ◌∷◌, length, get_or, set, sym, refl, ap, ◌∙◌, subst, inl, inr, ⊎_elim, arith, eq-eqb, ne_eqb, length-set}
 use lib.Seq.{set-get_or}
 use mathlib.Core.Logic.{dite}
 use mathlib.Core.Option.{Option, none, some, some-injective, some-ne-none}
@@ -13,15 +13,15 @@ use Rattle.gu_contents.specs.declared.content.Content.{Content}
 use Rattle.gu_contents.specs.declared.content.Content.TheVariants.{Empty}
 use Rattle.gu_contents.specs.declared.facts.Facts.{Facts}
 use Rattle.gu_contents.specs.Order.{AtMost, at_most}
-use Rattle.gu_contents.specs.Codes.{code, content}
+use Rattle.gu_contents.specs.Codes.{content}
 use Rattle.gu_cells.specs.declared.record.Entry.{Entry}
 use Rattle.gu_cells.specs.declared.record.Entry.TheVariants.{Read, Join}
 use Rattle.gu_cells.specs.declared.record.View.{View}
 use Rattle.gu_cells.specs.declared.sizes.Sizes.{Sizes}
 use Rattle.gu_cells.specs.Record.{BelongsTo, RecordBelongs, RecordsBelong, seen, CoversSeen, CoversAll, is_among, Fresh, SomeFresh}
-use Rattle.gu_cells.specs.Rule.{now_of, word_ceiling, IsWord, parts, records, held, total, once, IsSeat, IsAlone, HasFresh, Kept, noted, looked, own_is, Finds, Reads, Looks, exchanged, Exchanges}
+use Rattle.gu_cells.specs.Rule.{now_of, word_ceiling, IsWord, parts, records, held, once, IsSeat, HasFresh, Kept, noted, looked, own_is, Finds, Reads, Looks, Exchanges}
 use Rattle.gu_cells.proofs.Lattice.{Laws}
-use Rattle.gu_cells.proofs.Entries.{AllBelong, Rises, Agree, covers_more, covers_up, covers_all_up, looked_belongs, fresh_same, some_fresh_same, fresh_read, fresh_looked, fresh_join, fresh_raise}
+use Rattle.gu_cells.proofs.Entries.{Rises, Agree, covers_more, covers_up, covers_all_up, looked_belongs, fresh_same, some_fresh_same, fresh_read, fresh_looked, fresh_join, fresh_raise}
 use Rattle.gu_cells.proofs.Counts.{total_set}
 use Rattle.gu_cells.proofs.Words.{AllWords, all_belong, word_here, written, words_set, rises_set, rises_not, agree_set}
 
@@ -293,7 +293,7 @@ module _ {f : Facts} {longs : List ℕ} (laws : Laws f longs) (ceilings : List C
         record {
           finds = finds;
           after = sym (ap (λ (b : Bool). (own_is m.0 (cond b (Join (i - 1) asked (content longs old) (content longs new) ∷ m.0.own) lost), m.1)) (eq-eqb w old hit)
-          ∙ ap (λ (y : ℕ). (own_is m.0 (Join (i - 1) asked (content longs y) (content longs new) ∷ m.0.own), m.1)) (sym hit));
+              ∙ ap (λ (y : ℕ). (own_is m.0 (Join (i - 1) asked (content longs y) (content longs new) ∷ m.0.own), m.1)) (sym hit));
         },
       ))
       (λ miss. (

@@ -1,5 +1,5 @@
 -- One try of a join.
-use Rattle.std.proofs.Common.{ℕ, ◌≡◌, ◌≢◌, ◌+◌, ◌-◌, ◌<◌, ◌≤◌, ◌++◌, Bool, true, false, cond, List, [], ◌∷◌, sym, refl, ap, ◌∙◌, subst, arith}
+use Rattle.std.proofs.Common.{ℕ, ◌≡◌, ◌≢◌, ◌-◌, ◌<◌, ◌++◌, Bool, true, false, cond, List, ◌∷◌, sym, ap, ◌∙◌, subst, arith}
 use Rattle.gu_contents.specs.declared.content.Content.{Content}
 use Rattle.gu_contents.specs.declared.facts.Facts.{Facts}
 use Rattle.gu_contents.specs.Order.{AtMost, at_most}
@@ -8,9 +8,9 @@ use Rattle.gu_contents.specs.Rank.{rank}
 use Rattle.gu_contents.specs.Belongs.{Belongs}
 use Rattle.gu_cells.specs.declared.record.Entry.{Entry}
 use Rattle.gu_cells.specs.declared.record.Entry.TheVariants.{Read, Join}
-use Rattle.gu_cells.specs.Record.{at, BelongsTo, RecordBelongs, seen, Appends, reads_of}
+use Rattle.gu_cells.specs.Record.{BelongsTo, seen, Appends, reads_of}
 use Rattle.gu_cells.specs.Rule.{looked, IsFound}
-use Rattle.gu_cells.proofs.Lattice.{Laws, join_belongs, seen_belongs}
+use Rattle.gu_cells.proofs.Lattice.{Laws, seen_belongs}
 
 -- a look that finds all that is asked has noted the join
 pub look_decides : (f : Facts) (cell : ℕ) (asked x : Content) (found : List Content) (old new : List Entry) → new ≡ looked f cell asked x (reads_of cell found ++ old) → at_most f asked x ≡ true

@@ -1,13 +1,12 @@
 -- The contents of the words, before and after one is written.
-use Rattle.std.proofs.Common.{ℕ, zero, suc, ◌≡◌, ◌≢◌, ◌+◌, ◌-◌, ◌<◌, true, false, List, [], ◌∷◌, length, get_or, set, sym, refl, ap, ◌∙◌, subst, arith, get_or-set_same, get_or-set_other}
+use Rattle.std.proofs.Common.{ℕ, suc, ◌≡◌, ◌≢◌, ◌+◌, ◌-◌, ◌<◌, true, false, List, length, get_or, set, sym, ap, ◌∙◌, subst, arith, get_or-set_same, get_or-set_other}
 use mathlib.Core.Logic.{dite}
 use native.Mathlib.Decide.{ℕ_discrete}
 use Rattle.gu_contents.specs.declared.content.Content.{Content}
-use Rattle.gu_contents.specs.declared.content.Content.TheVariants.{Empty}
 use Rattle.gu_contents.specs.declared.facts.Facts.{Facts}
 use Rattle.gu_contents.specs.Order.{AtMost}
-use Rattle.gu_contents.specs.Codes.{code, content}
-use Rattle.gu_cells.specs.Record.{at, BelongsTo, is_among}
+use Rattle.gu_contents.specs.Codes.{content}
+use Rattle.gu_cells.specs.Record.{at, is_among}
 use Rattle.gu_cells.specs.Rule.{now_of, word_ceiling, IsWord}
 use Rattle.gu_cells.proofs.Lattice.{Laws}
 use Rattle.gu_cells.proofs.Entries.{AllBelong, Rises, Agree}

@@ -3,7 +3,7 @@ use Rattle.std.specs.Prelude.{ℕ, zero, suc, ◌≡◌, ◌≤◌, true, [], re
 use Rattle.std.proofs.Common.{arith}
 use Rattle.gu_types.specs.declared.types.TypeList.{TypeList}
 use Rattle.gu_types.specs.Depth.{types_of, depth}
-use Rattle.gu_rec.specs.Validity.{IndicesHold, indices_hold_at}
+use Rattle.gu_rec.specs.Validity.{indices_hold_at}
 use Rattle.gu_contents.specs.declared.facts.Facts.{Facts}
 
 -- no types

@@ -115,13 +115,13 @@ impl<'a, N: Ceilings> Cells<'a, N> {
         ensures of { IfOk result (λ r. All (λ s. s.of ≡ r.0.id) r.1) }
     {
         let mut list = Vec::with_capacity(alloc, seats as usize)?;
-        let (cells, mut first) = Cells::make(alloc, facts, longs, Sizes { cells, seats })?;
-        for _ in 1..seats {
-            let seat = cells.split(&mut first);
+        let (opened, mut first) = Cells::make(alloc, facts, longs, Sizes { cells, seats })?;
+        'others: for _ in 1..seats {
+            let seat = opened.split(&mut first);
             list.push(CellSeat::of(seat))?;
         }
         list.insert(0, CellSeat::of(first))?;
-        Ok((cells, List::from_vec(list)))
+        Ok((opened, List::from_vec(list)))
     }
 
     /// What a cell holds now: at least all that the seat has seen there, and at most the cell's
@@ -150,7 +150,8 @@ impl<'a, N: Ceilings> Cells<'a, N> {
         ensures record { seat.new.entries ≡ looked N.facts cell asked result seat.old.entries }
         ensures found { IsFound N.facts N.longs (at N.ceilings cell) cell seat.old.entries seat.new.entries result }
     {
-        let word = self.table
+        let word = self
+            .table
             .shared
             .load::<Looks<N, A>>(&mut seat.seat, cell + 1);
         content_of(self.longs, word)
@@ -180,7 +181,8 @@ impl<'a, N: Ceilings> Cells<'a, N> {
     {
         let old = code_of(self.longs, before);
         let new = code_of(self.longs, after);
-        let found = self.table
+        let found = self
+            .table
             .shared
             .compare_exchange::<Joins<N, A>>(&mut seat.seat, cell + 1, old, new);
         if found == old {
@@ -235,14 +237,15 @@ impl<'a, N: Ceilings> Cells<'a, N> {
         ensures records { records (parts result.me.0) ≡ map (λ s. s.entries) seats }
         ensures whole { (n : ℕ) → n < self.now.seats → 1 ≤ times n (parts result.me.0) }
     {
+        let table = &self.table.shared;
         let mut seats = seats.into_vec();
         let CellSeat {
             seat: mut first,
             of: _,
         } = seats.remove(0);
-        for other in seats {
+        'others: for other in seats {
             let CellSeat { seat, of: _ } = other;
-            self.table.shared.join_seat::<Both>(&mut first, seat);
+            table.join_seat::<Both>(&mut first, seat);
         }
         first
     }

@@ -6,6 +6,8 @@ mod record;
 mod rule;
 mod seat;
 mod sizes;
+#[cfg(test)]
+mod tests;
 
 pub use cells::{Cells, Joined};
 pub use record::Entry;

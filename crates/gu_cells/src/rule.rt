@@ -17,7 +17,9 @@ use std::marker::{Brand, PhantomData};
 /// `std::marker::Brand`.
 pub trait Ceilings {
     ghost facts: { Facts };
+
     ghost longs: { List ℕ };
+
     ghost ceilings: { List Content };
 }
 

@@ -1,4 +1,4 @@
-use Rattle.std.proofs.Common.{◌≡◌, ℕ, ◌-◌, List, ◌++◌}
+use Rattle.std.proofs.Common.{◌≡◌, ◌-◌, List, ◌++◌}
 use Rattle.gu_contents.specs.declared.content.Content.{Content}
 use Rattle.gu_contents.specs.Order.{AtMost}
 use Rattle.gu_contents.specs.Rank.{rank}
