@@ -1,5 +1,5 @@
 use Rattle.gu_contents.proofs.Belonging.{answers_belong}
-use Rattle.gu_links.proofs.Lattice.{lattice}
+use Rattle.gu_contents.proofs.Law.{lattice}
 use Rattle.gu_workers.proofs.Settling.{settled_contents_are_least}
 use Rattle.gu_workers.proofs.laws.settled_is_least.Goals as goal
 
