@@ -3,38 +3,41 @@
 //! the status.
 #![tactic(auto)]
 
-use gu_outside::{StdSink, StdSource};
+use gu_outside::{Sink, Source, StdSink, StdSource};
 use std::alloc::{AllocError, Global};
 use std::env;
 use std::io::{self, ErrorKind};
 use std::process::ExitCode;
+use std::rt::Env;
+use std::thread::Threads;
 use wasm_gufa::{Status, fault_line, wasm_gufa};
 
 fn main(rt: HostRuntime) -> ExitCode {
-    ExitCode::from(answer(&rt).number())
+    let mut input = StdSource::new(rt.stdin());
+    let mut output = StdSink::new(rt.stdout());
+    let mut report = StdSink::new(rt.stderr());
+    let status = answer(&rt, &mut input, &mut output, &mut report);
+    ExitCode::from(status.number())
 }
 
-/// Does the job, and tells a failure on the standard error.
-fn answer(rt: &HostRuntime) -> Status {
-    let mut report = StdSink::new(rt.stderr());
+/// Does the job that the words on the command line ask for, and tells a failure on the report.
+fn answer<R: Source, K: Sink, L: Sink>(
+    rt: &(impl Env + AllocGlobal + Threads + Sync),
+    input: &mut R,
+    output: &mut K,
+    report: &mut L,
+) -> Status {
     match arguments(rt) {
         Ok(arguments) => match words_of(rt.alloc(), &arguments) {
-            Ok(words) => wasm_gufa(
-                rt,
-                rt.alloc(),
-                words.as_slice(),
-                &mut StdSource::new(rt.stdin()),
-                &mut StdSink::new(rt.stdout()),
-                &mut report,
-            ),
-            Err(AllocError) => refused(&mut report, Status::NoMemory),
+            Ok(words) => wasm_gufa(rt, rt.alloc(), words.as_slice(), input, output, report),
+            Err(AllocError) => refused(report, Status::NoMemory),
         },
-        Err(error) => refused(&mut report, status_of(&error)),
+        Err(error) => refused(report, status_of(&error)),
     }
 }
 
 /// The arguments without the program's name. One that is no text is an error.
-fn arguments(rt: &HostRuntime) -> io::Result<Vec<String>> {
+fn arguments(rt: &(impl Env + AllocGlobal)) -> io::Result<Vec<String>> {
     let mut all = env::args(rt)?;
     let _name = all.next();
     Ok(all.collect(rt.alloc())?)
@@ -54,7 +57,7 @@ fn status_of(error: &io::Error) -> Status {
 }
 
 /// Tells a failure before any work.
-fn refused(report: &mut StdSink<io::Stderr>, status: Status) -> Status {
+fn refused<L: Sink>(report: &mut L, status: Status) -> Status {
     fault_line(report, &status);
     status
 }
