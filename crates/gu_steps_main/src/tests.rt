@@ -90,13 +90,13 @@ fn modules_become_their_least_spelling(rt: HostRuntime) -> Result<(), Fail> {
     Ok(())
 }
 
-/// Fronts of a program end behind nothing, the types or the imports, or are refused.
+/// Fronts of a program end behind the header, the types or the imports, or are refused.
 #[test]
 fn fronts_are_refused(rt: HostRuntime) -> Result<(), Fail> {
-    let mut whole = 0;
+    let mut whole: Vec<usize> = Vec::new(rt.alloc());
     for length in 0..OBJECTS.len() {
         match copied(&rt, rt.alloc(), &OBJECTS[..length]) {
-            Ok(_) => whole += 1,
+            Ok(_) => whole.push(length)?,
             Err(StepErr::Read(ReadErr::Malformed { at })) => {
                 assert!(rt; at <= length as u64);
             }
@@ -105,7 +105,7 @@ fn fronts_are_refused(rt: HostRuntime) -> Result<(), Fail> {
             }
         }
     }
-    assert_eq!(rt; whole, 3);
+    assert_eq!(rt; whole.as_slice(), [8, 84, 99].as_slice());
     Ok(())
 }
 
