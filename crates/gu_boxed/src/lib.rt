@@ -1,5 +1,6 @@
 //! A value on the heap, so that what holds it is small. Contracts see it as the value.
 #![tactic(auto)]
+
 ghost use Rattle.std.specs.Borrow.{sem};
 ghost use Rattle.std.specs.Prelude.{◌≡◌, IfOk};
 ghost use Rattle.gu_boxed.specs.Lends.{lends_value};

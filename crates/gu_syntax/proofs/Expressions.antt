@@ -6,7 +6,6 @@ use Rattle.std.proofs.lemmas.List.{append-nil}
 use Rattle.gu_optab.specs.Operators.{operator_with}
 use Rattle.gu_optab.specs.declared.op.NumOp.{NumOp}
 use Rattle.gu_types.specs.declared.types.HeapType.{HeapType}
-use Rattle.gu_types.specs.declared.types.RefType.{RefType}
 use Rattle.gu_types.specs.declared.types.ValType.{ValType}
 use Rattle.gu_syntax.specs.Code.{Ins, Code, leaf, block, loop, choice, try_table, done, next, ins_of, code_of, instr_of, list_of}
 use Rattle.gu_syntax.specs.declared.instr.BlockType.{BlockType}
@@ -14,7 +13,9 @@ use Rattle.gu_syntax.specs.declared.instr.Body.{Body}
 use Rattle.gu_syntax.specs.declared.instr.Catch.{Catch}
 use Rattle.gu_syntax.specs.declared.instr.Instr.{Instr}
 use Rattle.gu_syntax.specs.Parts.{Parts, Begins, SpellsVector, Made}
-use Rattle.gu_syntax.specs.Instructions.{SpellsBlockType, SpellsCatch, Form, Alone, Index, Pair, Labels, Const32, Const64, Access, Heap, Types, Cast, Unknown, SpellsForm, row_or, form_of, operator_form, plain_rows, aggregate_rows, bulk_rows, SpellsLeaf}
+use Rattle.gu_syntax.specs.declared.instr.BranchTable.{BranchTable}
+use Rattle.gu_syntax.specs.declared.instr.CastBranch.{CastBranch}
+use Rattle.gu_syntax.specs.Instructions.{SpellsBlockType, SpellsCatch, Form, Alone, Index, Pair, Labels, Const32, Const64, Access, Heap, Types, Cast, Unknown, SpellsForm, labels_of, row_or, form_of, operator_form, plain_rows, aggregate_rows, bulk_rows, SpellsLeaf}
 use Rattle.gu_syntax.specs.Expressions.{SpellsUntil, SpellsIns, SpellsBody}
 use Rattle.gu_syntax.specs.Reading.{Opcode, FlatOpcode, Read, got, ◌>>=◌, made_at, headed_at, none_at, vector_at, block_type_at, catch_at, leaf_at, opened, Nested, block_at, second_at, if_at, try_at, ins_at, next_of, next_at, until_head, until_at, body_of, body_at}
 use Rattle.gu_syntax.proofs.Shapes.{has_code, ins_of-plain, ins_of-Block, ins_of-Loop, ins_of-If, ins_of-TryTable}
@@ -347,13 +348,13 @@ unfoldable IsPlainForm : Form → Type 0
 IsPlainForm (Alone it) = has_code it ≡ false
 IsPlainForm (Index make) = (n : ℕ) → has_code (make n) ≡ false
 IsPlainForm (Pair make) = (m n : ℕ) → has_code (make m n) ≡ false
-IsPlainForm (Labels make) = (ns : List ℕ) (n : ℕ) → has_code (make ns n) ≡ false
+IsPlainForm (Labels make) = (table : BranchTable) → has_code (make table) ≡ false
 IsPlainForm (Const32 make) = (z : _) → has_code (make z) ≡ false
 IsPlainForm (Const64 make) = (z : _) → has_code (make z) ≡ false
 IsPlainForm (Access make) = (arg : _) → has_code (make arg) ≡ false
 IsPlainForm (Heap make) = (heap : HeapType) → has_code (make heap) ≡ false
 IsPlainForm (Types make) = (types : List ValType) → has_code (make types) ≡ false
-IsPlainForm (Cast make) = (label : ℕ) (of to : RefType) → has_code (make label of to) ≡ false
+IsPlainForm (Cast make) = (arg : CastBranch) → has_code (make arg) ≡ false
 IsPlainForm Unknown = Unit {0}
 
 rows_plain : (rows : List (ℕ × Form)) → AllByRecursion (λ row. IsPlainForm row.1) rows → (other : Form) → IsPlainForm other → (code : ℕ) → IsPlainForm (row_or other rows code)
@@ -370,11 +371,11 @@ operator_plain (Some op) = refl
 
 all_plain : AllByRecursion (λ row. IsPlainForm row.1) plain_rows
 unfolding IsPlainForm
-all_plain = (refl, (refl, ((λ n. refl), (refl, ((λ n. refl), ((λ n. refl), ((λ ns n. refl), (refl, ((λ n. refl), ((λ m n. refl), ((λ n. refl), ((λ m n. refl), ((λ n. refl), ((λ n. refl), (refl, (refl, ((λ types. refl), ((λ n. refl), ((λ n. refl), ((λ n. refl), ((λ n. refl), ((λ n. refl), ((λ n. refl), ((λ n. refl), ((λ arg. refl), ((λ arg. refl), ((λ arg. refl), ((λ arg. refl), ((λ arg. refl), ((λ arg. refl), ((λ arg. refl), ((λ arg. refl), ((λ arg. refl), ((λ arg. refl), ((λ arg. refl), ((λ arg. refl), ((λ arg. refl), ((λ arg. refl), ((λ arg. refl), ((λ arg. refl), ((λ arg. refl), ((λ arg. refl), ((λ arg. refl), ((λ n. refl), ((λ n. refl), ((λ z. refl), ((λ z. refl), ((λ heap. refl), (refl, ((λ n. refl), (refl, (refl, ((λ n. refl), ((λ n. refl), tt))))))))))))))))))))))))))))))))))))))))))))))))))))))
+all_plain = (refl, (refl, ((λ n. refl), (refl, ((λ n. refl), ((λ n. refl), ((λ table. refl), (refl, ((λ n. refl), ((λ m n. refl), ((λ n. refl), ((λ m n. refl), ((λ n. refl), ((λ n. refl), (refl, (refl, ((λ types. refl), ((λ n. refl), ((λ n. refl), ((λ n. refl), ((λ n. refl), ((λ n. refl), ((λ n. refl), ((λ n. refl), ((λ arg. refl), ((λ arg. refl), ((λ arg. refl), ((λ arg. refl), ((λ arg. refl), ((λ arg. refl), ((λ arg. refl), ((λ arg. refl), ((λ arg. refl), ((λ arg. refl), ((λ arg. refl), ((λ arg. refl), ((λ arg. refl), ((λ arg. refl), ((λ arg. refl), ((λ arg. refl), ((λ arg. refl), ((λ arg. refl), ((λ arg. refl), ((λ n. refl), ((λ n. refl), ((λ z. refl), ((λ z. refl), ((λ heap. refl), (refl, ((λ n. refl), (refl, (refl, ((λ n. refl), ((λ n. refl), tt))))))))))))))))))))))))))))))))))))))))))))))))))))))
 
 all_aggregate : AllByRecursion (λ row. IsPlainForm row.1) aggregate_rows
 unfolding IsPlainForm
-all_aggregate = ((λ n. refl), ((λ n. refl), ((λ m n. refl), ((λ m n. refl), ((λ m n. refl), ((λ m n. refl), ((λ n. refl), ((λ n. refl), ((λ m n. refl), ((λ m n. refl), ((λ m n. refl), ((λ n. refl), ((λ n. refl), ((λ n. refl), ((λ n. refl), (refl, ((λ n. refl), ((λ m n. refl), ((λ m n. refl), ((λ m n. refl), ((λ heap. refl), ((λ heap. refl), ((λ heap. refl), ((λ heap. refl), ((λ label of to. refl), ((λ label of to. refl), (refl, (refl, (refl, (refl, (refl, tt)))))))))))))))))))))))))))))))
+all_aggregate = ((λ n. refl), ((λ n. refl), ((λ m n. refl), ((λ m n. refl), ((λ m n. refl), ((λ m n. refl), ((λ n. refl), ((λ n. refl), ((λ m n. refl), ((λ m n. refl), ((λ m n. refl), ((λ n. refl), ((λ n. refl), ((λ n. refl), ((λ n. refl), (refl, ((λ n. refl), ((λ m n. refl), ((λ m n. refl), ((λ m n. refl), ((λ heap. refl), ((λ heap. refl), ((λ heap. refl), ((λ heap. refl), ((λ arg. refl), ((λ arg. refl), (refl, (refl, (refl, (refl, (refl, tt)))))))))))))))))))))))))))))))
 
 all_bulk : AllByRecursion (λ row. IsPlainForm row.1) bulk_rows
 unfolding IsPlainForm
@@ -385,13 +386,13 @@ unfolding IsPlainForm
 made_plain (Alone it) instr text plain h = ap has_code (sym h.0) ∙ plain
 made_plain (Index make) instr text plain h = ap has_code (sym h.makes) ∙ plain h.value
 made_plain (Pair make) instr text plain h = ap has_code (sym h.makes) ∙ plain h.value.0 h.value.1
-made_plain (Labels make) instr text plain h = ap has_code (sym h.makes) ∙ plain h.value.0 h.value.1
+made_plain (Labels make) instr text plain h = ap has_code (sym h.makes) ∙ plain (labels_of h.value)
 made_plain (Const32 make) instr text plain h = ap has_code (sym h.makes) ∙ plain h.value
 made_plain (Const64 make) instr text plain h = ap has_code (sym h.makes) ∙ plain h.value
 made_plain (Access make) instr text plain h = ap has_code (sym h.makes) ∙ plain h.value
 made_plain (Heap make) instr text plain h = ap has_code (sym h.makes) ∙ plain h.value
 made_plain (Types make) instr text plain h = ap has_code (sym h.makes) ∙ plain h.value
-made_plain (Cast make) instr text plain h = ap has_code (sym h.makes) ∙ plain h.value.label h.value.of h.value.to
+made_plain (Cast make) instr text plain h = ap has_code (sym h.makes) ∙ plain h.value
 made_plain Unknown instr text plain h = absurd h
 
 leaf_plain : (instr : Instr) (text : List ℕ) → SpellsLeaf instr text → has_code instr ≡ false
@@ -407,13 +408,13 @@ mutual
 
   ins_tree : (ins : Ins) (text : List ℕ) → SpellsIns ins text → ins_of (instr_of ins) ≡ ins
   ins_tree (leaf instr) text h = ins_of-plain instr (leaf_plain instr text h)
-  ins_tree (block ty code) text h = ins_of-Block ty (record { code = list_of code }) ∙ ap (block ty) (tree_back code 0x0B h.rest.back h.rest.second)
-  ins_tree (loop ty code) text h = ins_of-Loop ty (record { code = list_of code }) ∙ ap (loop ty) (tree_back code 0x0B h.rest.back h.rest.second)
-  ins_tree (choice ty one other) text h = ins_of-If ty (record { code = list_of one }) (record { code = list_of other }) ∙ elim h.rest.second [
+  ins_tree (block ty code) text h = ins_of-Block (record { ty = ty; body = record { code = list_of code } }) ∙ ap (block ty) (tree_back code 0x0B h.rest.back h.rest.second)
+  ins_tree (loop ty code) text h = ins_of-Loop (record { ty = ty; body = record { code = list_of code } }) ∙ ap (loop ty) (tree_back code 0x0B h.rest.back h.rest.second)
+  ins_tree (choice ty one other) text h = ins_of-If (record { ty = ty; yes = record { code = list_of one }; no = record { code = list_of other } }) ∙ elim h.rest.second [
     | inl s ↦ (ap (λ c. choice ty c (code_of (list_of other))) (tree_back one 0x0B h.rest.back s.1) ∙ ap (λ c. choice ty one (code_of (list_of c))) s.0 ∙ ap (choice ty one) (sym s.0))
     | inr p ↦ (ap (λ c. choice ty c (code_of (list_of other))) (tree_back one 0x05 p.front p.first) ∙ ap (choice ty one) (tree_back other 0x0B p.back p.second))
   ]
-  ins_tree (try_table ty catches code) text h = ins_of-TryTable ty catches (record { code = list_of code }) ∙ ap (try_table ty catches) (tree_back code 0x0B h.rest.second.back h.rest.second.second)
+  ins_tree (try_table ty catches code) text h = ins_of-TryTable (record { ty = ty; catches = catches; body = record { code = list_of code } }) ∙ ap (try_table ty catches) (tree_back code 0x0B h.rest.second.back h.rest.second.second)
 
 -- bodies
 

@@ -15,7 +15,8 @@ use Rattle.gu_syntax.specs.declared.instr.MemArg.{MemArg}
 use Rattle.gu_syntax.specs.declared.instr.Instr.{Instr}
 use Rattle.gu_syntax.specs.Parts.{Parts, Begins, SpellsU32, SpellsS32, SpellsVector, SpellsS33, SpellsS64, Both, Made, Numbered}
 use Rattle.gu_syntax.specs.Types.{null_byte, SpellsHeap, SpellsShort, SpellsRef, SpellsVal}
-use Rattle.gu_syntax.specs.Instructions.{SpellsBlockType, SpellsCatch, SpellsMemArg, CastArg, cast_flags, SpellsCast, Form, Alone, Index, Pair, Labels, Const32, Const64, Access, Heap, Types, Cast, Unknown, SpellsForm, row_or, form_of, aggregate_rows, bulk_rows, SpellsLeaf}
+use Rattle.gu_syntax.specs.declared.instr.CastBranch.{CastBranch}
+use Rattle.gu_syntax.specs.Instructions.{SpellsBlockType, SpellsCatch, SpellsMemArg, cast_flags, SpellsCast, Form, Alone, Index, Pair, Labels, Const32, Const64, Access, Heap, Types, Cast, Unknown, SpellsForm, labels_of, row_or, form_of, aggregate_rows, bulk_rows, SpellsLeaf}
 use Rattle.gu_syntax.specs.Reading.{Fixed, Number, Opcode, TypeStart, Read, got, refused, number, made_at, both_at, u32_at, s32_at, s64_at, rows_at, none_at, vector_at, abs_with, heap_head, heap_at, val_at, block_of, block_ref, block_head, block_type_at, catch_rows, catch_at, first_memory, any_memory, mem_arg_of, mem_arg_at, cast_of, cast_behind, cast_at, form_at, prefixed_at, leaf_at}
 use Rattle.gu_syntax.proofs.Takes.{is_below, not_below, below_not}
 use Rattle.gu_syntax.proofs.Decodes.{Decodes, Continues, continues_of, continues_chain, u32_continues, Heads, Headed, NumberedBy, numbered_decodes, Row, NoRow, Nothing, MadeBy, Void, made_heads, avoids, decodes_as, none_decodes, made_decodes, both_decodes, u32_decodes, s32_decodes, s64_decodes, headed_decodes, no_row_heads, row_heads, left_heads, vector_decodes, refused-got, left_is}
@@ -255,10 +256,10 @@ CastParts = Both SpellsU32 (Both SpellsHeap SpellsHeap)
 behind_decodes : (bound : ℕ) (of to : Bool) → Decodes bound (Made CastParts (cast_of of to)) (cast_behind of to)
 behind_decodes bound of to = made_decodes bound CastParts (both_at u32_at (both_at heap_at heap_at)) (cast_of of to) (both_decodes bound SpellsU32 (Both SpellsHeap SpellsHeap) u32_at (both_at heap_at heap_at) (u32_decodes bound Number) (both_decodes bound SpellsHeap SpellsHeap heap_at heap_at (heap_decodes bound) (heap_decodes bound)))
 
-unfoldable CastBy : ℕ → CastArg → List ℕ → Type 0
+unfoldable CastBy : ℕ → CastBranch → List ℕ → Type 0
 CastBy = Row 0x00 (Made CastParts (cast_of false false)) (Row 0x01 (Made CastParts (cast_of true false)) (Row 0x02 (Made CastParts (cast_of false true)) (Row 0x03 (Made CastParts (cast_of true true)) NoRow)))
 
-abbrev cast_rows : List (ℕ × (List ℕ → Read CastArg))
+abbrev cast_rows : List (ℕ × (List ℕ → Read CastBranch))
 cast_rows = (0x00, cast_behind false false) ∷ (0x01, cast_behind true false) ∷ (0x02, cast_behind false true) ∷ (0x03, cast_behind true true) ∷ []
 
 cast_heads : (bound : ℕ) → Heads bound CastBy (rows_at Fixed cast_rows)
@@ -272,12 +273,12 @@ cast_heads bound =
     (behind_decodes bound false true)
     (row_heads bound 0x03 (Made CastParts (cast_of true true)) (cast_behind true true) NoRow (λ left c other. refused Fixed left)
     (behind_decodes bound true true)
-    (no_row_heads CastArg bound Fixed))))
+    (no_row_heads CastBranch bound Fixed))))
 
-cast_to_of : (of to : Bool) (c : ℕ) (arg : CastArg) (back text : List ℕ) → text ≡ c ∷ back → c ≡ cast_flags of to → Made CastParts (cast_of of to) arg back → SpellsCast arg text
-cast_to_of of to c arg back text whole is h = let P : CastArg → Type 0 = λ x. SpellsCast x text in subst P h.makes (fixed (cast_flags of to) c (CastParts h.value) back text whole is h.spelled)
+cast_to_of : (of to : Bool) (c : ℕ) (arg : CastBranch) (back text : List ℕ) → text ≡ c ∷ back → c ≡ cast_flags of to → Made CastParts (cast_of of to) arg back → SpellsCast arg text
+cast_to_of of to c arg back text whole is h = let P : CastBranch → Type 0 = λ x. SpellsCast x text in subst P h.makes (fixed (cast_flags of to) c (CastParts h.value) back text whole is h.spelled)
 
-cast_to_by : (c : ℕ) (arg : CastArg) (back text : List ℕ) → text ≡ c ∷ back → CastBy c arg back → SpellsCast arg text
+cast_to_by : (c : ℕ) (arg : CastBranch) (back text : List ℕ) → text ≡ c ∷ back → CastBy c arg back → SpellsCast arg text
 unfolding CastBy Row NoRow
 cast_to_by c arg back text whole (inl h) = cast_to_of false false c arg back text whole h.0 h.1
 cast_to_by c arg back text whole (inr (i0, inl h)) = cast_to_of true false c arg back text whole h.0 h.1
@@ -309,13 +310,13 @@ unfolding Nothing
 form_continues bound (Alone it) = continues_of bound (Nothing it) (none_at it) (none_decodes bound it)
 form_continues bound (Index make) = continues_of bound (Made SpellsU32 make) (made_at make u32_at) (made_decodes bound SpellsU32 u32_at make (u32_decodes bound Number))
 form_continues bound (Pair make) = continues_of bound (Made Two (λ x. make x.0 x.1)) (made_at (λ x. make x.0 x.1) (both_at u32_at u32_at)) (made_decodes bound Two (both_at u32_at u32_at) (λ x. make x.0 x.1) (two_decodes bound))
-form_continues bound (Labels make) = continues_of bound (Made (Both (SpellsVector SpellsU32) SpellsU32) (λ x. make x.0 x.1)) (made_at (λ x. make x.0 x.1) (both_at (vector_at u32_at) u32_at)) (made_decodes bound (Both (SpellsVector SpellsU32) SpellsU32) (both_at (vector_at u32_at) u32_at) (λ x. make x.0 x.1) (both_decodes bound (SpellsVector SpellsU32) SpellsU32 (vector_at u32_at) u32_at (vector_decodes bound SpellsU32 u32_at (u32_decodes bound Number)) (u32_decodes bound Number)))
+form_continues bound (Labels make) = continues_of bound (Made (Both (SpellsVector SpellsU32) SpellsU32) (λ x. make (labels_of x))) (made_at (λ x. make (labels_of x)) (both_at (vector_at u32_at) u32_at)) (made_decodes bound (Both (SpellsVector SpellsU32) SpellsU32) (both_at (vector_at u32_at) u32_at) (λ x. make (labels_of x)) (both_decodes bound (SpellsVector SpellsU32) SpellsU32 (vector_at u32_at) u32_at (vector_decodes bound SpellsU32 u32_at (u32_decodes bound Number)) (u32_decodes bound Number)))
 form_continues bound (Const32 make) = continues_of bound (Made SpellsS32 make) (made_at make s32_at) (made_decodes bound SpellsS32 s32_at make (s32_decodes bound))
 form_continues bound (Const64 make) = continues_of bound (Made SpellsS64 make) (made_at make s64_at) (made_decodes bound SpellsS64 s64_at make (s64_decodes bound))
 form_continues bound (Access make) = continues_of bound (Made SpellsMemArg make) (made_at make mem_arg_at) (made_decodes bound SpellsMemArg mem_arg_at make (mem_arg_decodes bound))
 form_continues bound (Heap make) = continues_of bound (Made SpellsHeap make) (made_at make heap_at) (made_decodes bound SpellsHeap heap_at make (heap_decodes bound))
 form_continues bound (Types make) = continues_of bound (Made (SpellsVector SpellsVal) make) (made_at make (vector_at val_at)) (made_decodes bound (SpellsVector SpellsVal) (vector_at val_at) make (vector_decodes bound SpellsVal val_at (val_decodes bound)))
-form_continues bound (Cast make) = continues_of bound (Made SpellsCast (λ x. make x.label x.of x.to)) (made_at (λ x. make x.label x.of x.to) cast_at) (made_decodes bound SpellsCast cast_at (λ x. make x.label x.of x.to) (cast_decodes bound))
+form_continues bound (Cast make) = continues_of bound (Made SpellsCast make) (made_at make cast_at) (made_decodes bound SpellsCast cast_at make (cast_decodes bound))
 form_continues bound Unknown = refuses bound
 
 -- a number behind a prefix

@@ -38,7 +38,8 @@ use Rattle.gu_syntax.specs.declared.instr.Instr.TheVariants as I
 use Rattle.gu_syntax.proofs.Takes.{is_eq}
 use Rattle.gu_syntax.specs.declared.module.Limits.{Limits}
 use Rattle.gu_syntax.specs.Types.{abs_byte, final_byte, mutability, SpellsHeap, SpellsRef, SpellsVal, SpellsMutable, SpellsStorage, SpellsField, SpellsComp, SpellsSub, SpellsGroup, SpellsRange, SpellsLimits}
-use Rattle.gu_syntax.specs.Instructions.{SpellsBlockType, SpellsCatch, SpellsMemArg, CastArg, cast_flags, SpellsCast, Form, Alone, Index, Pair, Labels, Const32, Const64, Access, Heap, Types, Cast, Unknown, SpellsForm, row_or, form_of, operator_form, plain_rows, aggregate_rows, bulk_rows, SpellsLeaf}
+use Rattle.gu_syntax.specs.declared.instr.CastBranch.{CastBranch}
+use Rattle.gu_syntax.specs.Instructions.{SpellsBlockType, SpellsCatch, SpellsMemArg, cast_flags, SpellsCast, Form, Alone, Index, Pair, Labels, Const32, Const64, Access, Heap, Types, Cast, Unknown, SpellsForm, row_or, form_of, operator_form, plain_rows, aggregate_rows, bulk_rows, SpellsLeaf}
 use Rattle.gu_syntax.specs.Expressions.{SpellsUntil, SpellsIns, SpellsBody}
 
 -- texts of so many bytes are written
@@ -227,7 +228,7 @@ mem_fine arg h =
       | inr isnt ↦ subst Q (sym (cond-false (nat_eq arg.memory 0) small large isnt)) (fine_as (Parts (SpellsU32 (arg.exponent + 64)) (Parts (SpellsU32 arg.memory) (SpellsU32 arg.offset))) (SpellsMemArg arg) large (λ s. record { exponent = low; places = inr s }) (fine_parts (SpellsU32 (arg.exponent + 64)) (Parts (SpellsU32 arg.memory) (SpellsU32 arg.offset)) (least_unsigned (arg.exponent + 64)) (least_unsigned arg.memory ++ least_unsigned arg.offset) (fine_u32 (arg.exponent + 64) (omega (arith, low))) (pair_fine arg.memory arg.offset h.1 h.2)))
     ]
 
-cast_fine : (arg : CastArg) → FitsU32 arg.label → IsShapedRef arg.of → IsShapedRef arg.to → Fine (SpellsCast arg) (encode_cast arg)
+cast_fine : (arg : CastBranch) → FitsU32 arg.label → IsShapedRef arg.of → IsShapedRef arg.to → Fine (SpellsCast arg) (encode_cast arg)
 cast_fine arg l a b = fine_begins (cast_flags arg.of.null arg.to.null) (Parts (SpellsU32 arg.label) (Parts (SpellsHeap arg.of.heap) (SpellsHeap arg.to.heap))) (least_unsigned arg.label ++ (encode_heap arg.of.heap ++ encode_heap arg.to.heap)) (fine_parts (SpellsU32 arg.label) (Parts (SpellsHeap arg.of.heap) (SpellsHeap arg.to.heap)) (least_unsigned arg.label) (encode_heap arg.of.heap ++ encode_heap arg.to.heap) (fine_u32 arg.label l) (fine_parts (SpellsHeap arg.of.heap) (SpellsHeap arg.to.heap) (encode_heap arg.of.heap) (encode_heap arg.to.heap) (heap_fine arg.of.heap a) (heap_fine arg.to.heap b)))
 
 -- the code of one byte that has this form
@@ -280,8 +281,8 @@ pair_form make m n h room = record { value = (m, n); makes = refl; spelled = (pa
 heap_form : (make : HeapType → Instr) (heap : HeapType) → IsShapedHeap heap → length (encode_heap heap) ≤ most → SpellsForm (Heap make) (make heap) (encode_heap heap)
 heap_form make heap h room = record { value = heap; makes = refl; spelled = (heap_fine heap h).spells room }
 
-cast_form : (make : ℕ → RefType → RefType → Instr) (label : ℕ) (of to : RefType) → FitsU32 label × IsShapedRef of × IsShapedRef to → length (encode_cast (record { label = label; of = of; to = to })) ≤ most → SpellsForm (Cast make) (make label of to) (encode_cast (record { label = label; of = of; to = to }))
-cast_form make label of to h room = let arg : CastArg = record { label = label; of = of; to = to } in record { value = arg; makes = refl; spelled = (cast_fine arg h.0 h.1 h.2).spells room }
+cast_form : (make : CastBranch → Instr) (arg : CastBranch) → FitsU32 arg.label × IsShapedRef arg.of × IsShapedRef arg.to → length (encode_cast arg) ≤ most → SpellsForm (Cast make) (make arg) (encode_cast arg)
+cast_form make arg h room = record { value = arg; makes = refl; spelled = (cast_fine arg h.0 h.1 h.2).spells room }
 
 test_fine : (null : Bool) (heap : HeapType) → IsShapedHeap heap → Fine (SpellsLeaf (I.RefTest (record { null = null; heap = heap }))) (prefixed 0xFB (or_null 20 null) (encode_heap heap))
 test_fine false heap h = aggregate 20 (Heap (λ x. I.RefTest (record { null = false; heap = x }))) (I.RefTest (record { null = false; heap = heap })) (encode_heap heap) (omega arith) refl (heap_form (λ x. I.RefTest (record { null = false; heap = x })) heap h)
@@ -337,7 +338,7 @@ leaf_fine (I.Throw tag) s = index 0x08 I.Throw tag refl s
 leaf_fine I.ThrowRef s = alone 0x0A I.ThrowRef refl
 leaf_fine (I.Br label) s = index 0x0C I.Br label refl s
 leaf_fine (I.BrIf label) s = index 0x0D I.BrIf label refl s
-leaf_fine (I.BrTable labels last) s = coded 0x0E (Labels I.BrTable) (I.BrTable labels last) (encode_vector least_unsigned labels ++ least_unsigned last) refl (λ room. record { value = (labels, last); makes = refl; spelled = (fine_parts (SpellsVector SpellsU32 labels) (SpellsU32 last) (encode_vector least_unsigned labels) (least_unsigned last) (fine_indices labels s.0) (fine_u32 last s.1)).spells room })
+leaf_fine (I.BrTable table) s = coded 0x0E (Labels I.BrTable) (I.BrTable table) (encode_vector least_unsigned table.labels ++ least_unsigned table.last) refl (λ room. record { value = (table.labels, table.last); makes = refl; spelled = (fine_parts (SpellsVector SpellsU32 table.labels) (SpellsU32 table.last) (encode_vector least_unsigned table.labels) (least_unsigned table.last) (fine_indices table.labels s.0) (fine_u32 table.last s.1)).spells room })
 leaf_fine I.Return s = alone 0x0F I.Return refl
 leaf_fine (I.Call func) s = index 0x10 I.Call func refl s
 leaf_fine (I.CallIndirect ty table) s = pair 0x11 I.CallIndirect ty table refl s
@@ -408,8 +409,8 @@ leaf_fine (I.ArrayInitData ty data') s = aggregate 18 (Pair I.ArrayInitData) (I.
 leaf_fine (I.ArrayInitElem ty elem) s = aggregate 19 (Pair I.ArrayInitElem) (I.ArrayInitElem ty elem) (two ty elem) (omega arith) refl (pair_form I.ArrayInitElem ty elem s)
 leaf_fine (I.RefTest ref) s = test_fine ref.null ref.heap s
 leaf_fine (I.RefCast ref) s = ref_cast_fine ref.null ref.heap s
-leaf_fine (I.BrOnCast label of to) s = aggregate 24 (Cast I.BrOnCast) (I.BrOnCast label of to) (encode_cast (record { label = label; of = of; to = to })) (omega arith) refl (cast_form I.BrOnCast label of to s)
-leaf_fine (I.BrOnCastFail label of to) s = aggregate 25 (Cast I.BrOnCastFail) (I.BrOnCastFail label of to) (encode_cast (record { label = label; of = of; to = to })) (omega arith) refl (cast_form I.BrOnCastFail label of to s)
+leaf_fine (I.BrOnCast arg) s = aggregate 24 (Cast I.BrOnCast) (I.BrOnCast arg) (encode_cast arg) (omega arith) refl (cast_form I.BrOnCast arg s)
+leaf_fine (I.BrOnCastFail arg) s = aggregate 25 (Cast I.BrOnCastFail) (I.BrOnCastFail arg) (encode_cast arg) (omega arith) refl (cast_form I.BrOnCastFail arg s)
 leaf_fine I.AnyConvertExtern s = aggregate 26 (Alone I.AnyConvertExtern) I.AnyConvertExtern [] (omega arith) refl (λ room. alone_form I.AnyConvertExtern)
 leaf_fine I.ExternConvertAny s = aggregate 27 (Alone I.ExternConvertAny) I.ExternConvertAny [] (omega arith) refl (λ room. alone_form I.ExternConvertAny)
 leaf_fine I.RefI31 s = aggregate 28 (Alone I.RefI31) I.RefI31 [] (omega arith) refl (λ room. alone_form I.RefI31)

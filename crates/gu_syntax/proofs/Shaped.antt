@@ -51,7 +51,9 @@ use Rattle.gu_bytes.specs.Numbers.{FitsBits}
 use Rattle.gu_bytes.proofs.Unsigned.{unsigned_fits}
 use Rattle.gu_bytes.proofs.Signed.{signed_fits}
 use Rattle.gu_optab.proofs.Rows.{of_rows}
-use Rattle.gu_syntax.specs.Instructions.{SpellsBlockType, SpellsCatch, SpellsMemArg, Form, Alone, Index, Pair, Labels, Const32, Const64, Access, Heap, Types, Cast, Unknown, SpellsForm, row_or, form_of, operator_form, plain_rows, aggregate_rows, bulk_rows, SpellsLeaf}
+use Rattle.gu_syntax.specs.declared.instr.BranchTable.{BranchTable}
+use Rattle.gu_syntax.specs.declared.instr.CastBranch.{CastBranch}
+use Rattle.gu_syntax.specs.Instructions.{SpellsBlockType, SpellsCatch, SpellsMemArg, Form, Alone, Index, Pair, Labels, Const32, Const64, Access, Heap, Types, Cast, Unknown, SpellsForm, labels_of, row_or, form_of, operator_form, plain_rows, aggregate_rows, bulk_rows, SpellsLeaf}
 use Rattle.gu_syntax.specs.Reading.{abs_with}
 use Rattle.gu_syntax.specs.Laws.{RunsFit}
 use Rattle.gu_syntax.proofs.Types.{abs_again}
@@ -149,13 +151,13 @@ unfoldable ShapedForm : Form → Type 0
 ShapedForm (Alone it) = IsShapedLeaf it
 ShapedForm (Index make) = (n : ℕ) → FitsU32 n → IsShapedLeaf (make n)
 ShapedForm (Pair make) = (m n : ℕ) → FitsU32 m → FitsU32 n → IsShapedLeaf (make m n)
-ShapedForm (Labels make) = (ns : List ℕ) (n : ℕ) → AllByRecursion FitsU32 ns → FitsU32 n → IsShapedLeaf (make ns n)
+ShapedForm (Labels make) = (table : BranchTable) → AllByRecursion FitsU32 table.labels → FitsU32 table.last → IsShapedLeaf (make table)
 ShapedForm (Const32 make) = (z : ℤ) → FitsBits 32 z → IsShapedLeaf (make z)
 ShapedForm (Const64 make) = (z : ℤ) → FitsBits 64 z → IsShapedLeaf (make z)
 ShapedForm (Access make) = (arg : MemArg) → IsShapedMemArg arg → IsShapedLeaf (make arg)
 ShapedForm (Heap make) = (heap : HeapType) → IsShapedHeap heap → IsShapedLeaf (make heap)
 ShapedForm (Types make) = (types : List ValType) → AllByRecursion IsShapedVal types → IsShapedLeaf (make types)
-ShapedForm (Cast make) = (label : ℕ) (of to : RefType) → FitsU32 label → IsShapedRef of → IsShapedRef to → IsShapedLeaf (make label of to)
+ShapedForm (Cast make) = (arg : CastBranch) → FitsU32 arg.label → IsShapedRef arg.of → IsShapedRef arg.to → IsShapedLeaf (make arg)
 ShapedForm Unknown = Unit {0}
 
 rows_shaped : (rows : List (ℕ × Form)) → AllByRecursion (λ row. ShapedForm row.1) rows → (other : Form) → ShapedForm other → (code : ℕ) → ShapedForm (row_or other rows code)
@@ -172,11 +174,11 @@ operator_shaped code (Some op) e = (of_rows code op e).0
 
 all_plain : AllByRecursion (λ row. ShapedForm row.1) plain_rows
 unfolding ShapedForm
-all_plain = (tt, (tt, ((λ n h. h), (tt, ((λ n h. h), ((λ n h. h), ((λ ns n h k. (h, k)), (tt, ((λ n h. h), ((λ m n h k. (h, k)), ((λ n h. h), ((λ m n h k. (h, k)), ((λ n h. h), ((λ n h. h), (tt, (tt, ((λ types h. h), ((λ n h. h), ((λ n h. h), ((λ n h. h), ((λ n h. h), ((λ n h. h), ((λ n h. h), ((λ n h. h), ((λ arg h. h), ((λ arg h. h), ((λ arg h. h), ((λ arg h. h), ((λ arg h. h), ((λ arg h. h), ((λ arg h. h), ((λ arg h. h), ((λ arg h. h), ((λ arg h. h), ((λ arg h. h), ((λ arg h. h), ((λ arg h. h), ((λ arg h. h), ((λ arg h. h), ((λ arg h. h), ((λ arg h. h), ((λ arg h. h), ((λ arg h. h), ((λ n h. h), ((λ n h. h), ((λ z h. h), ((λ z h. h), ((λ heap h. h), (tt, ((λ n h. h), (tt, (tt, ((λ n h. h), ((λ n h. h), tt))))))))))))))))))))))))))))))))))))))))))))))))))))))
+all_plain = (tt, (tt, ((λ n h. h), (tt, ((λ n h. h), ((λ n h. h), ((λ table h k. (h, k)), (tt, ((λ n h. h), ((λ m n h k. (h, k)), ((λ n h. h), ((λ m n h k. (h, k)), ((λ n h. h), ((λ n h. h), (tt, (tt, ((λ types h. h), ((λ n h. h), ((λ n h. h), ((λ n h. h), ((λ n h. h), ((λ n h. h), ((λ n h. h), ((λ n h. h), ((λ arg h. h), ((λ arg h. h), ((λ arg h. h), ((λ arg h. h), ((λ arg h. h), ((λ arg h. h), ((λ arg h. h), ((λ arg h. h), ((λ arg h. h), ((λ arg h. h), ((λ arg h. h), ((λ arg h. h), ((λ arg h. h), ((λ arg h. h), ((λ arg h. h), ((λ arg h. h), ((λ arg h. h), ((λ arg h. h), ((λ arg h. h), ((λ n h. h), ((λ n h. h), ((λ z h. h), ((λ z h. h), ((λ heap h. h), (tt, ((λ n h. h), (tt, (tt, ((λ n h. h), ((λ n h. h), tt))))))))))))))))))))))))))))))))))))))))))))))))))))))
 
 all_aggregate : AllByRecursion (λ row. ShapedForm row.1) aggregate_rows
 unfolding ShapedForm
-all_aggregate = ((λ n h. h), ((λ n h. h), ((λ m n h k. (h, k)), ((λ m n h k. (h, k)), ((λ m n h k. (h, k)), ((λ m n h k. (h, k)), ((λ n h. h), ((λ n h. h), ((λ m n h k. (h, k)), ((λ m n h k. (h, k)), ((λ m n h k. (h, k)), ((λ n h. h), ((λ n h. h), ((λ n h. h), ((λ n h. h), (tt, ((λ n h. h), ((λ m n h k. (h, k)), ((λ m n h k. (h, k)), ((λ m n h k. (h, k)), ((λ heap h. h), ((λ heap h. h), ((λ heap h. h), ((λ heap h. h), ((λ label of to h a b. (h, a, b)), ((λ label of to h a b. (h, a, b)), (tt, (tt, (tt, (tt, (tt, tt)))))))))))))))))))))))))))))))
+all_aggregate = ((λ n h. h), ((λ n h. h), ((λ m n h k. (h, k)), ((λ m n h k. (h, k)), ((λ m n h k. (h, k)), ((λ m n h k. (h, k)), ((λ n h. h), ((λ n h. h), ((λ m n h k. (h, k)), ((λ m n h k. (h, k)), ((λ m n h k. (h, k)), ((λ n h. h), ((λ n h. h), ((λ n h. h), ((λ n h. h), (tt, ((λ n h. h), ((λ m n h k. (h, k)), ((λ m n h k. (h, k)), ((λ m n h k. (h, k)), ((λ heap h. h), ((λ heap h. h), ((λ heap h. h), ((λ heap h. h), ((λ arg h a b. (h, a, b)), ((λ arg h a b. (h, a, b)), (tt, (tt, (tt, (tt, (tt, tt)))))))))))))))))))))))))))))))
 
 all_bulk : AllByRecursion (λ row. ShapedForm row.1) bulk_rows
 unfolding ShapedForm
@@ -187,13 +189,13 @@ unfolding ShapedForm
 form_shaped (Alone it) instr text f h = subst IsShapedLeaf h.0 f
 form_shaped (Index make) instr text f h = subst IsShapedLeaf h.makes (f h.value (u32_fits h.value text h.spelled))
 form_shaped (Pair make) instr text f h = let p = h.spelled in subst IsShapedLeaf h.makes (f h.value.0 h.value.1 (u32_fits h.value.0 p.front p.first) (u32_fits h.value.1 p.back p.second))
-form_shaped (Labels make) instr text f h = let p = h.spelled in subst IsShapedLeaf h.makes (f h.value.0 h.value.1 (vector_all SpellsU32 FitsU32 h.value.0 p.front u32_fits p.first) (u32_fits h.value.1 p.back p.second))
+form_shaped (Labels make) instr text f h = let p = h.spelled in subst IsShapedLeaf h.makes (f (labels_of h.value) (vector_all SpellsU32 FitsU32 h.value.0 p.front u32_fits p.first) (u32_fits h.value.1 p.back p.second))
 form_shaped (Const32 make) instr text f h = subst IsShapedLeaf h.makes (f h.value (signed_fits 32 text h.value h.spelled))
 form_shaped (Const64 make) instr text f h = subst IsShapedLeaf h.makes (f h.value (signed_fits 64 text h.value h.spelled))
 form_shaped (Access make) instr text f h = subst IsShapedLeaf h.makes (f h.value (mem_shaped h.value text h.spelled))
 form_shaped (Heap make) instr text f h = subst IsShapedLeaf h.makes (f h.value (heap_shaped h.value text h.spelled))
 form_shaped (Types make) instr text f h = subst IsShapedLeaf h.makes (f h.value (vector_all SpellsVal IsShapedVal h.value text val_shaped h.spelled))
-form_shaped (Cast make) instr text f h = let p = h.spelled.rest in subst IsShapedLeaf h.makes (f h.value.label h.value.of h.value.to (u32_fits h.value.label p.front p.first) (heap_shaped h.value.of.heap p.second.front p.second.first) (heap_shaped h.value.to.heap p.second.back p.second.second))
+form_shaped (Cast make) instr text f h = let p = h.spelled.rest in subst IsShapedLeaf h.makes (f h.value (u32_fits h.value.label p.front p.first) (heap_shaped h.value.of.heap p.second.front p.second.first) (heap_shaped h.value.to.heap p.second.back p.second.second))
 form_shaped Unknown instr text f h = absurd h
 
 leaf_shaped : (instr : Instr) (text : List ℕ) → SpellsLeaf instr text → IsShapedLeaf instr

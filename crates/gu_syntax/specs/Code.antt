@@ -5,7 +5,7 @@ use Rattle.gu_syntax.specs.declared.instr.BlockType.{BlockType}
 use Rattle.gu_syntax.specs.declared.instr.Catch.{Catch}
 use Rattle.gu_syntax.specs.declared.instr.Instr as I
 use Rattle.gu_syntax.specs.declared.instr.Instr.TheVariants.{Block, Loop, If, TryTable}
-use Rattle.gu_syntax.specs.declared.instr.Instr.{Instr, Row_of-Instr, end_of-Instr, more_of-Instr}
+use Rattle.gu_syntax.specs.declared.instr.Instr.{Instr, Row_of-Instr, end_of-Instr, more_of-Instr, more_of-Structured, more_of-Choice, more_of-Guarded}
 
 mutual
   -- an instruction
@@ -26,10 +26,10 @@ mutual
 unfoldable mutual
   -- an instruction as a tree
   pub ins_of : Instr → Ins
-  ins_of (I.Block' ty shape row) = block ty (code_row row)
-  ins_of (I.Loop' ty shape row) = loop ty (code_row row)
-  ins_of (I.If' ty shape row shape' row') = choice ty (code_row row) (code_row row')
-  ins_of (I.TryTable' ty catches shape row) = try_table ty catches (code_row row)
+  ins_of (I.Block' boxed (more_of-Structured ty shape row rest)) = block ty (code_row row)
+  ins_of (I.Loop' boxed (more_of-Structured ty shape row rest)) = loop ty (code_row row)
+  ins_of (I.If' boxed (more_of-Choice ty shape row shape' row' rest)) = choice ty (code_row row) (code_row row')
+  ins_of (I.TryTable' boxed (more_of-Guarded ty catches shape row rest)) = try_table ty catches (code_row row)
   ins_of i = leaf i
 
   pub code_row : {n : _} → Row_of-Instr n → Code
@@ -45,10 +45,10 @@ code_of (i ∷ is) = next (ins_of i) (code_of is)
 abbrev mutual
   pub instr_of : Ins → Instr
   instr_of (leaf i) = i
-  instr_of (block ty code) = Block ty (record { code = list_of code })
-  instr_of (loop ty code) = Loop ty (record { code = list_of code })
-  instr_of (choice ty yes' no') = If ty (record { code = list_of yes' }) (record { code = list_of no' })
-  instr_of (try_table ty catches code) = TryTable ty catches (record { code = list_of code })
+  instr_of (block ty code) = Block (record { ty = ty; body = record { code = list_of code } })
+  instr_of (loop ty code) = Loop (record { ty = ty; body = record { code = list_of code } })
+  instr_of (choice ty yes' no') = If (record { ty = ty; yes = record { code = list_of yes' }; no = record { code = list_of no' } })
+  instr_of (try_table ty catches code) = TryTable (record { ty = ty; catches = catches; body = record { code = list_of code } })
 
   pub list_of : Code → List Instr
   list_of done = []

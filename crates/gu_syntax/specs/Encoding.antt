@@ -43,7 +43,8 @@ use Rattle.gu_syntax.specs.declared.module.SegMode.{SegMode}
 use Rattle.gu_syntax.specs.declared.module.SegMode.TheVariants as G
 use Rattle.gu_syntax.specs.declared.module.Table.{Table}
 use Rattle.gu_syntax.specs.Types.{abs_byte, null_byte, mutability, final_byte}
-use Rattle.gu_syntax.specs.Instructions.{CastArg, cast_flags}
+use Rattle.gu_syntax.specs.declared.instr.CastBranch.{CastBranch}
+use Rattle.gu_syntax.specs.Instructions.{cast_flags}
 use Rattle.gu_syntax.specs.Expressions.{same_heap}
 use Rattle.gu_syntax.specs.Sections.{kind_byte, funcref}
 
@@ -146,7 +147,7 @@ encode_catch (T.AllRef label) = 0x03 ∷ least_unsigned label
 abbrev pub encode_mem_arg : MemArg → List ℕ
 encode_mem_arg arg = if nat_eq arg.memory 0 then least_unsigned arg.exponent ++ least_unsigned arg.offset else least_unsigned (arg.exponent + 64) ++ (least_unsigned arg.memory ++ least_unsigned arg.offset)
 
-abbrev pub encode_cast : CastArg → List ℕ
+abbrev pub encode_cast : CastBranch → List ℕ
 encode_cast arg = cast_flags arg.of.null arg.to.null ∷ (least_unsigned arg.label ++ (encode_heap arg.of.heap ++ encode_heap arg.to.heap))
 
 -- the number of an instruction on a cast behind FB is one more where null is in the type
@@ -179,7 +180,7 @@ encode_leaf (I.Throw tag) = with_index 0x08 tag
 encode_leaf I.ThrowRef = 0x0A ∷ []
 encode_leaf (I.Br label) = with_index 0x0C label
 encode_leaf (I.BrIf label) = with_index 0x0D label
-encode_leaf (I.BrTable labels last) = 0x0E ∷ (encode_vector least_unsigned labels ++ least_unsigned last)
+encode_leaf (I.BrTable table) = 0x0E ∷ (encode_vector least_unsigned table.labels ++ least_unsigned table.last)
 encode_leaf I.Return = 0x0F ∷ []
 encode_leaf (I.Call func) = with_index 0x10 func
 encode_leaf (I.CallIndirect ty table) = with_pair 0x11 ty table
@@ -250,8 +251,8 @@ encode_leaf (I.ArrayInitData ty data') = prefixed 0xFB 18 (two ty data')
 encode_leaf (I.ArrayInitElem ty elem) = prefixed 0xFB 19 (two ty elem)
 encode_leaf (I.RefTest ref) = prefixed 0xFB (or_null 20 ref.null) (encode_heap ref.heap)
 encode_leaf (I.RefCast ref) = prefixed 0xFB (or_null 22 ref.null) (encode_heap ref.heap)
-encode_leaf (I.BrOnCast label of to) = prefixed 0xFB 24 (encode_cast (record { label = label; of = of; to = to }))
-encode_leaf (I.BrOnCastFail label of to) = prefixed 0xFB 25 (encode_cast (record { label = label; of = of; to = to }))
+encode_leaf (I.BrOnCast arg) = prefixed 0xFB 24 (encode_cast arg)
+encode_leaf (I.BrOnCastFail arg) = prefixed 0xFB 25 (encode_cast arg)
 encode_leaf I.AnyConvertExtern = prefixed 0xFB 26 []
 encode_leaf I.ExternConvertAny = prefixed 0xFB 27 []
 encode_leaf I.RefI31 = prefixed 0xFB 28 []

@@ -11,6 +11,8 @@ use Rattle.gu_syntax.specs.declared.instr.BlockType.TheVariants as B
 use Rattle.gu_syntax.specs.declared.instr.Catch.{Catch}
 use Rattle.gu_syntax.specs.declared.instr.Catch.TheVariants as T
 use Rattle.gu_syntax.specs.declared.instr.MemArg.{MemArg}
+use Rattle.gu_syntax.specs.declared.instr.BranchTable.{BranchTable}
+use Rattle.gu_syntax.specs.declared.instr.CastBranch.{CastBranch}
 use Rattle.gu_syntax.specs.declared.instr.Instr.{Instr}
 use Rattle.gu_syntax.specs.declared.instr.Instr.TheVariants as I
 use Rattle.gu_syntax.specs.Parts.{Parts, Begins, SpellsU32, SpellsS32, SpellsVector, SpellsS33, SpellsS64, Both, Made, Numbered}
@@ -35,12 +37,6 @@ pub record SpellsMemArg (arg : MemArg) (text : List ℕ) : Type 0 where
   pub exponent : arg.exponent < 64
   pub places : ((arg.memory ≡ 0) × Numbered arg.exponent (SpellsU32 arg.offset) text) ⊎ Numbered (arg.exponent + 64) (Parts (SpellsU32 arg.memory) (SpellsU32 arg.offset)) text
 
--- the label and the two types of a branch on a cast
-pub record CastArg : Type 0 where
-  pub label : ℕ
-  pub of : RefType
-  pub to : RefType
-
 -- the flags of a branch on a cast: 1 where null is in the first type, and 2 more where it is in the second
 abbrev pub cast_flags : (of to : Bool) → ℕ
 cast_flags false false = 0x00
@@ -49,8 +45,12 @@ cast_flags false true = 0x02
 cast_flags true true = 0x03
 
 -- the immediates of a branch on a cast (Reference Instructions)
-abbrev pub SpellsCast : CastArg → List ℕ → Type 0
+abbrev pub SpellsCast : CastBranch → List ℕ → Type 0
 SpellsCast arg text = Begins (cast_flags arg.of.null arg.to.null) (Parts (SpellsU32 arg.label) (Parts (SpellsHeap arg.of.heap) (SpellsHeap arg.to.heap))) text
+
+-- labels, and one more
+abbrev pub labels_of : List ℕ × ℕ → BranchTable
+labels_of x = record { labels = x.0; last = x.1 }
 
 -- what stands behind the code of an instruction, and the instruction that it makes
 pub data Form : Type 0 where
@@ -60,7 +60,7 @@ pub data Form : Type 0 where
   Index : (ℕ → Instr) → Form
   Pair : (ℕ → ℕ → Instr) → Form
   -- labels, and one more
-  Labels : (List ℕ → ℕ → Instr) → Form
+  Labels : (BranchTable → Instr) → Form
   -- a constant of 32 or of 64 bits
   Const32 : (ℤ → Instr) → Form
   Const64 : (ℤ → Instr) → Form
@@ -71,7 +71,7 @@ pub data Form : Type 0 where
   -- value types
   Types : (List ValType → Instr) → Form
   -- what a branch on a cast has
-  Cast : (ℕ → RefType → RefType → Instr) → Form
+  Cast : (CastBranch → Instr) → Form
   -- no instruction has this code
   Unknown : Form
 
@@ -79,13 +79,13 @@ abbrev pub SpellsForm : Form → Instr → List ℕ → Type 0
 SpellsForm (Alone it) instr text = (it ≡ instr) × (text ≡ [])
 SpellsForm (Index make) instr text = Made SpellsU32 make instr text
 SpellsForm (Pair make) instr text = Made (Both SpellsU32 SpellsU32) (λ x. make x.0 x.1) instr text
-SpellsForm (Labels make) instr text = Made (Both (SpellsVector SpellsU32) SpellsU32) (λ x. make x.0 x.1) instr text
+SpellsForm (Labels make) instr text = Made (Both (SpellsVector SpellsU32) SpellsU32) (λ x. make (labels_of x)) instr text
 SpellsForm (Const32 make) instr text = Made SpellsS32 make instr text
 SpellsForm (Const64 make) instr text = Made SpellsS64 make instr text
 SpellsForm (Access make) instr text = Made SpellsMemArg make instr text
 SpellsForm (Heap make) instr text = Made SpellsHeap make instr text
 SpellsForm (Types make) instr text = Made (SpellsVector SpellsVal) make instr text
-SpellsForm (Cast make) instr text = Made SpellsCast (λ x. make x.label x.of x.to) instr text
+SpellsForm (Cast make) instr text = Made SpellsCast make instr text
 SpellsForm Unknown instr text = ⊥
 
 -- a reference type made of a heap type

@@ -42,7 +42,8 @@ use Rattle.gu_syntax.specs.declared.module.Module.{Module}
 use Rattle.gu_syntax.specs.declared.module.Seg.{Seg}
 use Rattle.gu_syntax.specs.declared.module.SegMode.TheVariants as G
 use Rattle.gu_syntax.specs.declared.module.Table.{Table}
-use Rattle.gu_syntax.specs.Instructions.{CastArg, Form, Alone, Index, Pair, Labels, Const32, Const64, Access, Heap, Types, Cast, Unknown, ref_to, row_or, form_of, aggregate_rows, bulk_rows}
+use Rattle.gu_syntax.specs.declared.instr.CastBranch.{CastBranch}
+use Rattle.gu_syntax.specs.Instructions.{Form, Alone, Index, Pair, Labels, Const32, Const64, Access, Heap, Types, Cast, Unknown, labels_of, ref_to, row_or, form_of, aggregate_rows, bulk_rows}
 use Rattle.gu_syntax.specs.Expressions.{merged, Entry}
 use Rattle.gu_syntax.specs.Sections.{funcref}
 
@@ -334,13 +335,13 @@ mem_arg_of left a rest = if nat_lt a 64 then made_at (first_memory a) u32_at res
 abbrev pub mem_arg_at : List ℕ → Read MemArg
 mem_arg_at text = numbered_at Number mem_arg_of text
 
-abbrev pub cast_of : (of to : Bool) → ℕ × (HeapType × HeapType) → CastArg
+abbrev pub cast_of : (of to : Bool) → ℕ × (HeapType × HeapType) → CastBranch
 cast_of of to x = record { label = x.0; of = ref_to of x.1.0; to = ref_to to x.1.1 }
 
-abbrev pub cast_behind : (of to : Bool) → List ℕ → Read CastArg
+abbrev pub cast_behind : (of to : Bool) → List ℕ → Read CastBranch
 cast_behind of to text = made_at (cast_of of to) (both_at u32_at (both_at heap_at heap_at)) text
 
-abbrev pub cast_at : List ℕ → Read CastArg
+abbrev pub cast_at : List ℕ → Read CastBranch
 cast_at text = headed_at Fixed (rows_at Fixed ((0x00, cast_behind false false) ∷ (0x01, cast_behind true false) ∷ (0x02, cast_behind false true) ∷ (0x03, cast_behind true true) ∷ [])) text
 
 -- what stands behind a code
@@ -348,13 +349,13 @@ abbrev pub form_at : (left : ℕ) → Form → List ℕ → Read Instr
 form_at left (Alone instr) text = got instr text
 form_at left (Index make) text = made_at make u32_at text
 form_at left (Pair make) text = made_at (λ x. make x.0 x.1) (both_at u32_at u32_at) text
-form_at left (Labels make) text = made_at (λ x. make x.0 x.1) (both_at (vector_at u32_at) u32_at) text
+form_at left (Labels make) text = made_at (λ x. make (labels_of x)) (both_at (vector_at u32_at) u32_at) text
 form_at left (Const32 make) text = made_at make s32_at text
 form_at left (Const64 make) text = made_at make s64_at text
 form_at left (Access make) text = made_at make mem_arg_at text
 form_at left (Heap make) text = made_at make heap_at text
 form_at left (Types make) text = made_at make (vector_at val_at) text
-form_at left (Cast make) text = made_at (λ x. make x.label x.of x.to) cast_at text
+form_at left (Cast make) text = made_at make cast_at text
 form_at left Unknown text = refused Opcode left
 
 -- a number behind a prefix is refused where the prefix stands

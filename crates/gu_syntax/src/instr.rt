@@ -1,4 +1,5 @@
 //! Instructions as trees. Each has its immediates in the order of the binary format.
+use gu_boxed::Boxed;
 use gu_optab::NumOp;
 use gu_types::{HeapType, List, RefType, ValType};
 
@@ -45,7 +46,62 @@ pub struct Body {
     pub code: List<Instr>,
 }
 
-/// An instruction, named as in the text format (2.4 Instructions).
+/// What a `block` or a `loop` has (2.4, Control Instructions, structured instructions).
+#[cycle(code)]
+#[derive(Debug, Drop)]
+pub struct Structured {
+    /// What it takes and gives.
+    pub ty: BlockType,
+    /// The instructions inside.
+    pub body: Body,
+}
+
+/// What an `if` has (2.4, Control Instructions).
+#[cycle(code)]
+#[derive(Debug, Drop)]
+pub struct Choice {
+    /// What both bodies take and give.
+    pub ty: BlockType,
+    /// What is taken where the i32 is not 0.
+    pub yes: Body,
+    /// What is taken at 0: empty where the `else` is missing.
+    pub no: Body,
+}
+
+/// What a `try_table` has (2.4, Control Instructions).
+#[cycle(code)]
+#[derive(Debug, Drop)]
+pub struct Guarded {
+    /// What it takes and gives.
+    pub ty: BlockType,
+    /// What is done with exceptions of the body: the first that fits.
+    pub catches: List<Catch>,
+    /// The instructions inside.
+    pub body: Body,
+}
+
+/// What a `br_table` has (2.4, Control Instructions).
+#[derive(Debug, Drop)]
+pub struct BranchTable {
+    /// The label for each number from 0 on.
+    pub labels: List<u32>,
+    /// The label for all greater numbers.
+    pub last: u32,
+}
+
+/// What a `br_on_cast` or a `br_on_cast_fail` has (2.4, Reference Instructions).
+#[derive(Clone, Copy, Debug, PartialEq, Eq)]
+pub struct CastBranch {
+    /// The label.
+    pub label: u32,
+    /// The type of the operand.
+    pub of: RefType,
+    /// The type that is asked for.
+    pub to: RefType,
+}
+
+/// An instruction, named as in the text format (2.4 Instructions). It takes 16 bytes: what is longer
+/// is boxed.
 #[cycle(code)]
 #[derive(Debug, Drop)]
 pub enum Instr {
@@ -54,13 +110,13 @@ pub enum Instr {
     /// Does nothing.
     Nop,
     /// A block, whose label stands behind it.
-    Block(BlockType, Body),
+    Block(Boxed<Structured>),
     /// A loop, whose label stands before it.
-    Loop(BlockType, Body),
+    Loop(Boxed<Structured>),
     /// A choice by an i32: the second body is taken at 0, and is empty where it is missing.
-    If(BlockType, Body, Body),
+    If(Boxed<Choice>),
     /// A block whose exceptions the catches take, the first that fits.
-    TryTable(BlockType, List<Catch>, Body),
+    TryTable(Boxed<Guarded>),
     /// Throws an exception of a tag.
     Throw(u32),
     /// Throws the exception that it is given.
@@ -70,7 +126,7 @@ pub enum Instr {
     /// Branches to a label where an i32 is not 0.
     BrIf(u32),
     /// Branches to the label that an i32 picks, or to the last one.
-    BrTable(List<u32>, u32),
+    BrTable(Boxed<BranchTable>),
     /// Returns from the function.
     Return,
     /// Calls a function.
@@ -90,7 +146,7 @@ pub enum Instr {
     /// Picks one of two numbers by an i32.
     Select,
     /// Picks one of two values of a type by an i32.
-    SelectOf(List<ValType>),
+    SelectOf(Boxed<List<ValType>>),
     /// Reads a local.
     LocalGet(u32),
     /// Writes a local.
@@ -192,9 +248,9 @@ pub enum Instr {
     /// Traps where a reference is not of a type.
     RefCast(RefType),
     /// Branches to a label where a reference of the first type is of the second.
-    BrOnCast(u32, RefType, RefType),
+    BrOnCast(Boxed<CastBranch>),
     /// Branches to a label where a reference of the first type is not of the second.
-    BrOnCastFail(u32, RefType, RefType),
+    BrOnCastFail(Boxed<CastBranch>),
     /// A structure of the operands.
     StructNew(u32),
     /// A structure of defaults.
@@ -246,3 +302,5 @@ pub enum Instr {
     /// An unboxed number as an unsigned i32.
     I31GetU,
 }
+
+const _: () = prove!(size_of::<Instr>() == 16);

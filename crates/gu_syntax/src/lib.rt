@@ -7,7 +7,9 @@ mod instr;
 pub mod laws;
 mod module;
 
-pub use instr::{BlockType, Body, Catch, Instr, MemArg};
+pub use instr::{
+    BlockType, Body, BranchTable, CastBranch, Catch, Choice, Guarded, Instr, MemArg, Structured,
+};
 pub use module::{
     Desc, Elem, ElemMode, Export, Func, Global, Import, Items, Kind, Limits, Module, Seg, SegMode,
     Table,
