@@ -10,6 +10,7 @@ use Rattle.gu_types.specs.declared.types.RefType.{RefType}
 use Rattle.gu_types.specs.declared.types.ValType.{ValType}
 use Rattle.gu_types.specs.declared.types.ValType.TheVariants.{I32, I64, Ref}
 use Rattle.gu_rec.specs.Sub.{is_sub, line, is_sub_ref, is_sub_val}
+use Rattle.gu_syntax.specs.declared.instr.CastBranch.{CastBranch}
 use Rattle.gu_syntax.specs.declared.instr.Instr.{Instr}
 use Rattle.gu_syntax.specs.declared.instr.Instr.TheVariants as I
 use Rattle.gu_model.specs.Outline.{Outline}
@@ -299,8 +300,11 @@ module _ (o : Outline) (good : GoodTypes o.types) (funcs : GoodFuncs o) (gs : Li
   cast_stays a l x taken left st s e v below c g sf h = let t = retyped o good funcs gs ts es segs declared c.ends.0 a c.mid c.end (with_stack st below).core c.second g in with_below o good funcs gs ts es segs declared a st (FitsOf a e) (v ∷ below) _ (stays o good funcs gs ts es segs declared a e (with_stack st (v ∷ below)) (subst (λ e. FitsOf a e (with_stack st (v ∷ below)).core) c.is (record { reached = t.reached; stack = (h, t.stack); locals = t.locals; set = t.set })) sf)
 
   -- br_on_cast and br_on_cast_fail
-  pub on_cast_good : (a : Around) (l : ℕ) (x y : RefType) (st : State) (s e : Shape) → type_leaf K a (I.BrOnCast l x y) s ≡ Some e → FitsOf a s st.core → StoreFits o K st.core.store → GoodOf a st.core (FitsOf a e) (jumping 1 (branch_cast o x y (branch l) normal (allocated st.core.store)) st)
-  on_cast_good a l x y st s e h f sf =
+  pub on_cast_good : (a : Around) (arg : CastBranch) (st : State) (s e : Shape) → type_leaf K a (I.BrOnCast arg) s ≡ Some e → FitsOf a s st.core → StoreFits o K st.core.store → GoodOf a st.core (FitsOf a e) (jumping 1 (branch_cast o arg.of arg.to (branch arg.label) normal (allocated st.core.store)) st)
+  on_cast_good a arg st s e h f sf =
+      let l = arg.label in
+      let x = arg.of in
+      let y = arg.to in
       let c = cast_typed a l x y y (minus x y) s e h in
       popped o good K a st.core (FitsOf a e) (Ref x ∷ []) 1 st s c.mid _ refl c.first f (λ vs below split hv hb r set.
       one_is o (allocated st.core.store) (λ vs. GoodOf a st.core (FitsOf a e) (land st below (branch_cast o x y (branch l) normal (allocated st.core.store) vs))) vs (Ref x) hv (λ v hv.
@@ -311,8 +315,11 @@ module _ (o : Outline) (good : GoodTypes o.types) (funcs : GoodFuncs o) (gs : Li
         | inr no' ↦ subst (λ b. GoodOf a st.core (FitsOf a e) (out (cond b (branch l) normal) (with_stack st (v ∷ below)))) (sym no') (cast_stays a l x y (minus x y) st s e v below c g sf (minus_has (allocated st.core.store) x y v hv no'))
       ])))
 
-  pub on_cast_fail_good : (a : Around) (l : ℕ) (x y : RefType) (st : State) (s e : Shape) → type_leaf K a (I.BrOnCastFail l x y) s ≡ Some e → FitsOf a s st.core → StoreFits o K st.core.store → GoodOf a st.core (FitsOf a e) (jumping 1 (branch_cast o x y normal (branch l) (allocated st.core.store)) st)
-  on_cast_fail_good a l x y st s e h f sf =
+  pub on_cast_fail_good : (a : Around) (arg : CastBranch) (st : State) (s e : Shape) → type_leaf K a (I.BrOnCastFail arg) s ≡ Some e → FitsOf a s st.core → StoreFits o K st.core.store → GoodOf a st.core (FitsOf a e) (jumping 1 (branch_cast o arg.of arg.to normal (branch arg.label) (allocated st.core.store)) st)
+  on_cast_fail_good a arg st s e h f sf =
+      let l = arg.label in
+      let x = arg.of in
+      let y = arg.to in
       let c = cast_typed a l x y (minus x y) y s e h in
       popped o good K a st.core (FitsOf a e) (Ref x ∷ []) 1 st s c.mid _ refl c.first f (λ vs below split hv hb r set.
       one_is o (allocated st.core.store) (λ vs. GoodOf a st.core (FitsOf a e) (land st below (branch_cast o x y normal (branch l) (allocated st.core.store) vs))) vs (Ref x) hv (λ v hv.

@@ -95,7 +95,7 @@ module _ (C : Context) where
   unfolding AllLeave
   leaf_stops a I.Unreachable s t h e = row_stops C (Some (R.leaves [])) s t tt e
   leaf_stops a (I.Br l) s t h e = row_stops C (control_row C a (I.Br l)) s t (leave_bind (slice_get a.labels l) _ (λ ts. tt)) e
-  leaf_stops a (I.BrTable ls l) s t h e = bind_all (slice_get a.labels l) _ (λ ts. bind_all (pops C.types (I32 ∷ []) s) (table_branch C a ls ts) (λ u. given_all (list_all (takes C a (length ts) u) ls) (pops C.types ts u >>= stops) (stops_are (pops C.types ts u) t))) e
+  leaf_stops a (I.BrTable table) s t h e = bind_all (slice_get a.labels table.last) _ (λ ts. bind_all (pops C.types (I32 ∷ []) s) (table_branch C a table.labels ts) (λ u. given_all (list_all (takes C a (length ts) u) table.labels) (pops C.types ts u >>= stops) (stops_are (pops C.types ts u) t))) e
   leaf_stops a I.Return s t h e = row_stops C (Some (R.leaves a.results)) s t tt e
   leaf_stops a (I.ReturnCall f) s t h e = row_stops C (control_row C a (I.ReturnCall f)) s t (leave_bind (func_at C f) _ (tail_leaves C a [])) e
   leaf_stops a (I.ReturnCallIndirect x y) s t h e = row_stops C (control_row C a (I.ReturnCallIndirect x y)) s t (leave_bind (indirect C x y) _ (tail_leaves C a _)) e

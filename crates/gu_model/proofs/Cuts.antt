@@ -62,7 +62,7 @@ leaf_stops : (o : Outline) (enters : ℕ → State → Out) (i : Instr) (s : Sta
 unfolding do_act
 leaf_stops o e I.Unreachable s go to h = pop_stops 0 s _ go to (λ vs rest. refl)
 leaf_stops o e (I.Br l) s go to h = refl
-leaf_stops o e (I.BrTable ls l) s go to h = pop_stops 1 s _ go to (λ vs rest. table_stops ls l vs rest s go to)
+leaf_stops o e (I.BrTable table) s go to h = pop_stops 1 s _ go to (λ vs rest. table_stops table.labels table.last vs rest s go to)
 leaf_stops o e I.Return s go to h = refl
 leaf_stops o e (I.ReturnCall f) s go to h = tail_stops o f s go to
 leaf_stops o e (I.ReturnCallIndirect x y) s go to h = pop_stops 1 s _ go to (λ vs rest. called_stops o (by_index o x y s.core.store vs) (with_stack s rest) go to)

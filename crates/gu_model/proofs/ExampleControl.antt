@@ -5,6 +5,7 @@ use Rattle.gu_types.specs.declared.types.Comp.TheVariants as C
 use Rattle.gu_types.specs.declared.types.HeapType.TheVariants as H
 use Rattle.gu_types.specs.declared.types.ValType.TheVariants as V
 use Rattle.gu_syntax.specs.declared.instr.BlockType.TheVariants as B
+use Rattle.gu_syntax.specs.declared.instr.CastBranch.{CastBranch}
 use Rattle.gu_syntax.specs.declared.instr.Catch.TheVariants as T
 use Rattle.gu_syntax.specs.declared.instr.Instr.TheVariants as I
 use Rattle.gu_syntax.specs.declared.module.Module.{Module}
@@ -27,6 +28,10 @@ round = record (of_funcs (C.Func (V.I32 ∷ []) (V.I32 ∷ []) ∷ C.Func [] (V.
 
 abbrev number : ℕ → List (Option Value)
 number n = Some (i32 n) ∷ []
+
+-- a cast of any reference to one of an i31, which branches to the innermost label
+abbrev to_i31 : CastBranch
+to_i31 = record { label = 0; of = ref_abs A.Any; to = record { null = false; heap = H.Abs A.I31 } }
 
 abbrev reference : Value → List (Option Value)
 reference v = Some v ∷ []
@@ -54,11 +59,11 @@ unfolding ins_of code_row do_act need within pop spend with_some or_foul ask is_
 chooses_other = refl
 
 -- the table of labels: the last label takes what is past it
-picks : runs round (number 0) 0 (next (block B.Empty (next (block B.Empty ((I.LocalGet 0 ∷ I.BrTable (1 ∷ []) 0 ∷ []) then done)) ((I.I32Const (pos 1) ∷ I.Return ∷ []) then done))) ((I.I32Const (pos 2) ∷ []) then done)) ≡ (normal, i32 2 ∷ [])
+picks : runs round (number 0) 0 (next (block B.Empty (next (block B.Empty ((I.LocalGet 0 ∷ I.BrTable (record { labels = 1 ∷ []; last = 0 }) ∷ []) then done)) ((I.I32Const (pos 1) ∷ I.Return ∷ []) then done))) ((I.I32Const (pos 2) ∷ []) then done)) ≡ (normal, i32 2 ∷ [])
 unfolding ins_of code_row do_act need within pop spend with_some or_foul ask is_sub line same_type eq_sub eq_group closed_type closed_types
 picks = refl
 
-picks_last : runs round (number 9) 0 (next (block B.Empty (next (block B.Empty ((I.LocalGet 0 ∷ I.BrTable (1 ∷ []) 0 ∷ []) then done)) ((I.I32Const (pos 1) ∷ I.Return ∷ []) then done))) ((I.I32Const (pos 2) ∷ []) then done)) ≡ (return, i32 1 ∷ [])
+picks_last : runs round (number 9) 0 (next (block B.Empty (next (block B.Empty ((I.LocalGet 0 ∷ I.BrTable (record { labels = 1 ∷ []; last = 0 }) ∷ []) then done)) ((I.I32Const (pos 1) ∷ I.Return ∷ []) then done))) ((I.I32Const (pos 2) ∷ []) then done)) ≡ (return, i32 1 ∷ [])
 unfolding ins_of code_row do_act need within pop spend with_some or_foul ask is_sub line same_type eq_sub eq_group closed_type closed_types
 picks_last = refl
 
@@ -93,19 +98,19 @@ unfolding ins_of code_row do_act need within pop spend with_some or_foul ask is_
 on_non_null_other = refl
 
 -- branches by a cast: an unboxed number goes to the label, and null does not
-on_cast : runs round (reference (i31 3)) 0 (next (block (B.Val (any_of A.Any)) ((I.LocalGet 0 ∷ I.BrOnCast 0 (ref_abs A.Any) (record { null = false; heap = H.Abs A.I31 }) ∷ I.Drop ∷ I.I32Const (pos 8) ∷ I.Return ∷ []) then done)) ((I.RefIsNull ∷ []) then done)) ≡ (normal, i32 0 ∷ [])
+on_cast : runs round (reference (i31 3)) 0 (next (block (B.Val (any_of A.Any)) ((I.LocalGet 0 ∷ I.BrOnCast to_i31 ∷ I.Drop ∷ I.I32Const (pos 8) ∷ I.Return ∷ []) then done)) ((I.RefIsNull ∷ []) then done)) ≡ (normal, i32 0 ∷ [])
 unfolding ins_of code_row do_act need within pop spend with_some or_foul ask is_sub line same_type eq_sub eq_group closed_type closed_types
 on_cast = refl
 
-on_cast_other : runs round (reference null) 0 (next (block (B.Val (any_of A.Any)) ((I.LocalGet 0 ∷ I.BrOnCast 0 (ref_abs A.Any) (record { null = false; heap = H.Abs A.I31 }) ∷ I.Drop ∷ I.I32Const (pos 8) ∷ I.Return ∷ []) then done)) ((I.RefIsNull ∷ []) then done)) ≡ (return, i32 8 ∷ [])
+on_cast_other : runs round (reference null) 0 (next (block (B.Val (any_of A.Any)) ((I.LocalGet 0 ∷ I.BrOnCast to_i31 ∷ I.Drop ∷ I.I32Const (pos 8) ∷ I.Return ∷ []) then done)) ((I.RefIsNull ∷ []) then done)) ≡ (return, i32 8 ∷ [])
 unfolding ins_of code_row do_act need within pop spend with_some or_foul ask is_sub line same_type eq_sub eq_group closed_type closed_types
 on_cast_other = refl
 
-on_cast_fail : runs round (reference null) 0 (next (block (B.Val (any_of A.Any)) ((I.LocalGet 0 ∷ I.BrOnCastFail 0 (ref_abs A.Any) (record { null = false; heap = H.Abs A.I31 }) ∷ I.Drop ∷ I.I32Const (pos 8) ∷ I.Return ∷ []) then done)) ((I.RefIsNull ∷ []) then done)) ≡ (normal, i32 1 ∷ [])
+on_cast_fail : runs round (reference null) 0 (next (block (B.Val (any_of A.Any)) ((I.LocalGet 0 ∷ I.BrOnCastFail to_i31 ∷ I.Drop ∷ I.I32Const (pos 8) ∷ I.Return ∷ []) then done)) ((I.RefIsNull ∷ []) then done)) ≡ (normal, i32 1 ∷ [])
 unfolding ins_of code_row do_act need within pop spend with_some or_foul ask is_sub line same_type eq_sub eq_group closed_type closed_types
 on_cast_fail = refl
 
-on_cast_fail_other : runs round (reference (i31 3)) 0 (next (block (B.Val (any_of A.Any)) ((I.LocalGet 0 ∷ I.BrOnCastFail 0 (ref_abs A.Any) (record { null = false; heap = H.Abs A.I31 }) ∷ I.Drop ∷ I.I32Const (pos 8) ∷ I.Return ∷ []) then done)) ((I.RefIsNull ∷ []) then done)) ≡ (return, i32 8 ∷ [])
+on_cast_fail_other : runs round (reference (i31 3)) 0 (next (block (B.Val (any_of A.Any)) ((I.LocalGet 0 ∷ I.BrOnCastFail to_i31 ∷ I.Drop ∷ I.I32Const (pos 8) ∷ I.Return ∷ []) then done)) ((I.RefIsNull ∷ []) then done)) ≡ (return, i32 8 ∷ [])
 unfolding ins_of code_row do_act need within pop spend with_some or_foul ask is_sub line same_type eq_sub eq_group closed_type closed_types
 on_cast_fail_other = refl
 

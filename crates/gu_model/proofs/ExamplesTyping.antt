@@ -19,6 +19,7 @@ use Rattle.gu_rec.specs.Sub.{is_sub, line}
 use Rattle.gu_rec.specs.Validity.{supers_hold_at}
 use Rattle.gu_syntax.specs.declared.instr.BlockType.TheVariants as B
 use Rattle.gu_syntax.specs.declared.instr.Catch.TheVariants as T
+use Rattle.gu_syntax.specs.declared.instr.CastBranch.{CastBranch}
 use Rattle.gu_syntax.specs.declared.instr.Instr.{Instr}
 use Rattle.gu_syntax.specs.declared.instr.Instr.TheVariants as I
 use Rattle.gu_syntax.specs.declared.instr.MemArg.{MemArg}
@@ -85,6 +86,9 @@ typed_over local c = is_typed_body all (record { params = []; results = [] }) ((
 
 abbrev ref : (null : Bool) → HeapType → RefType
 ref n h = record { null = n; heap = h }
+
+abbrev cast : (label : ℕ) (of to : RefType) → CastBranch
+cast l r s = record { label = l; of = r; to = s }
 
 abbrev i32 : Instr
 i32 = I.I32Const (pos 1)
@@ -195,10 +199,10 @@ chooses = refl
 no_else : typed (I32 ∷ []) (I32 ∷ []) (next (leaf (I.LocalGet 0)) (next (choice (B.Val I32) (code (i32 ∷ [])) done) done)) ≡ false
 no_else = refl
 
-tables_of_labels : typed [] [] (next (block B.Empty (code (i32 ∷ I.BrTable (0 ∷ 1 ∷ []) 0 ∷ []))) done) ≡ true
+tables_of_labels : typed [] [] (next (block B.Empty (code (i32 ∷ I.BrTable (record { labels = 0 ∷ 1 ∷ []; last = 0 }) ∷ []))) done) ≡ true
 tables_of_labels = refl
 
-labels_differ : typed [] (I32 ∷ []) (next (block B.Empty (code (I.Unreachable ∷ I.BrTable (1 ∷ []) 0 ∷ []))) (code (i32 ∷ []))) ≡ false
+labels_differ : typed [] (I32 ∷ []) (next (block B.Empty (code (I.Unreachable ∷ I.BrTable (record { labels = 1 ∷ []; last = 0 }) ∷ []))) (code (i32 ∷ []))) ≡ false
 labels_differ = refl
 
 selects_references : typed (abs_or_null A.Any ∷ []) (abs_or_null A.Any ∷ []) (code (I.LocalGet 0 ∷ I.LocalGet 0 ∷ i32 ∷ I.Select ∷ [])) ≡ false
@@ -268,24 +272,24 @@ branches_on_non_null : typed (idx_or_null 2 ∷ []) (idx 2 ∷ []) (code (I.Loca
 unfolding is_sub line same_type eq_sub eq_group closed_type closed_types
 branches_on_non_null = refl
 
-cast_branch : typed (abs A.Any ∷ []) (idx 2 ∷ []) (code (I.LocalGet 0 ∷ I.BrOnCast 0 (ref false (H.Abs A.Any)) (ref false (H.Idx 2)) ∷ I.Unreachable ∷ [])) ≡ true
+cast_branch : typed (abs A.Any ∷ []) (idx 2 ∷ []) (code (I.LocalGet 0 ∷ I.BrOnCast (cast 0 (ref false (H.Abs A.Any)) (ref false (H.Idx 2))) ∷ I.Unreachable ∷ [])) ≡ true
 unfolding is_sub line same_type eq_sub eq_group closed_type closed_types
 cast_branch = refl
 
-cast_branch_of_null : typed (abs_or_null A.Any ∷ []) (idx_or_null 2 ∷ []) (next (block (B.Val (abs A.Any)) (code (I.LocalGet 0 ∷ I.BrOnCast 1 (ref true (H.Abs A.Any)) (ref true (H.Idx 2)) ∷ []))) (code (I.Unreachable ∷ []))) ≡ true
+cast_branch_of_null : typed (abs_or_null A.Any ∷ []) (idx_or_null 2 ∷ []) (next (block (B.Val (abs A.Any)) (code (I.LocalGet 0 ∷ I.BrOnCast (cast 1 (ref true (H.Abs A.Any)) (ref true (H.Idx 2))) ∷ []))) (code (I.Unreachable ∷ []))) ≡ true
 unfolding is_sub line same_type eq_sub eq_group closed_type closed_types
 cast_branch_of_null = refl
 
-cast_branch_up : typed (abs_or_null A.Eq ∷ []) (abs_or_null A.Any ∷ []) (code (I.LocalGet 0 ∷ I.BrOnCast 0 (ref true (H.Abs A.Eq)) (ref true (H.Abs A.Any)) ∷ [])) ≡ false
+cast_branch_up : typed (abs_or_null A.Eq ∷ []) (abs_or_null A.Any ∷ []) (code (I.LocalGet 0 ∷ I.BrOnCast (cast 0 (ref true (H.Abs A.Eq)) (ref true (H.Abs A.Any))) ∷ [])) ≡ false
 unfolding is_sub line
 cast_branch_up = refl
 
-cast_fail_branch : typed (abs_or_null A.Any ∷ []) (abs A.Any ∷ []) (code (I.LocalGet 0 ∷ I.BrOnCastFail 0 (ref true (H.Abs A.Any)) (ref true (H.Idx 2)) ∷ I.RefAsNonNull ∷ [])) ≡ true
+cast_fail_branch : typed (abs_or_null A.Any ∷ []) (abs A.Any ∷ []) (code (I.LocalGet 0 ∷ I.BrOnCastFail (cast 0 (ref true (H.Abs A.Any)) (ref true (H.Idx 2))) ∷ I.RefAsNonNull ∷ [])) ≡ true
 unfolding is_sub line same_type eq_sub eq_group closed_type closed_types
 cast_fail_branch = refl
 
 -- null stays where the second type is not nullable, so the label has to take it
-cast_fail_branch_with_null : typed (abs_or_null A.Any ∷ []) (abs A.Any ∷ []) (code (I.LocalGet 0 ∷ I.BrOnCastFail 0 (ref true (H.Abs A.Any)) (ref false (H.Idx 2)) ∷ [])) ≡ false
+cast_fail_branch_with_null : typed (abs_or_null A.Any ∷ []) (abs A.Any ∷ []) (code (I.LocalGet 0 ∷ I.BrOnCastFail (cast 0 (ref true (H.Abs A.Any)) (ref false (H.Idx 2))) ∷ [])) ≡ false
 unfolding is_sub line same_type eq_sub eq_group closed_type closed_types
 cast_fail_branch_with_null = refl
 

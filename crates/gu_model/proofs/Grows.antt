@@ -163,11 +163,11 @@ module _ (o : Outline) (enters : ℕ → State → Out) (g : (f : ℕ) → Grows
   pub leaf_grows : (i : Instr) → GrowsFrom (exec_leaf o enters i)
   leaf_grows (I.Br k) s = same _ _
   leaf_grows (I.BrIf k) s = jumping_grows 1 (branch_if k) s
-  leaf_grows (I.BrTable ks k) s = jumping_grows 1 (branch_table ks k) s
+  leaf_grows (I.BrTable table) s = jumping_grows 1 (branch_table table.labels table.last) s
   leaf_grows (I.BrOnNull k) s = jumping_grows 1 (branch_null k) s
   leaf_grows (I.BrOnNonNull k) s = jumping_grows 1 (branch_non_null k) s
-  leaf_grows (I.BrOnCast k a b) s = jumping_grows 1 (branch_cast o a b (branch k) normal (allocated s.core.store)) s
-  leaf_grows (I.BrOnCastFail k a b) s = jumping_grows 1 (branch_cast o a b normal (branch k) (allocated s.core.store)) s
+  leaf_grows (I.BrOnCast arg) s = jumping_grows 1 (branch_cast o arg.of arg.to (branch arg.label) normal (allocated s.core.store)) s
+  leaf_grows (I.BrOnCastFail arg) s = jumping_grows 1 (branch_cast o arg.of arg.to normal (branch arg.label) (allocated s.core.store)) s
   leaf_grows I.Return s = same _ _
   leaf_grows (I.Call f) s = call_grows f s
   leaf_grows (I.CallRef x) s = pop_grows 1 s _ (λ vs below. called_grows _ _ call_grows (with_stack s below))

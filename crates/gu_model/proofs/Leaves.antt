@@ -6,6 +6,7 @@ use Rattle.std.specs.List.{list_all}
 use Rattle.gu_types.specs.declared.types.RefType.{RefType}
 use Rattle.gu_types.specs.declared.types.ValType.{ValType}
 use Rattle.gu_types.specs.declared.types.ValType.TheVariants.{I32}
+use Rattle.gu_syntax.specs.declared.instr.BranchTable.{BranchTable}
 use Rattle.gu_syntax.specs.declared.instr.Instr.{Instr}
 use Rattle.gu_syntax.specs.declared.instr.Instr.TheVariants as I
 use Rattle.gu_model.specs.Outline.{Outline}
@@ -261,15 +262,15 @@ module _ (o : Outline) (good : GoodTypes o.types) (funcs : GoodFuncs o) (gs : Li
       by (Some us) l q = split_row us l q
 
   -- br_table
-  pub br_table_good : (a : Around) (ks : List ℕ) (k : ℕ) (st : State) (s e : Shape) → type_leaf K a (I.BrTable ks k) s ≡ Some e → FitsOf a s st.core → StoreFits o K st.core.store → GoodOf a st.core (FitsOf a e) (jumping 1 (branch_table ks k) st)
-  br_table_good a ks k st s e h f sf =
-      let b = bind_some (slice_get a.labels k) (λ us. pops o.types (I32 ∷ []) s >>= table_branch K a ks us) e h in
-      let c = bind_some (pops o.types (I32 ∷ []) s) (table_branch K a ks b.mid) e b.then in
-      let g = given_some (list_all (could_take K a (length b.mid) c.mid) ks) (pops o.types b.mid c.mid >>= Y.stops) e c.then in
+  pub br_table_good : (a : Around) (table : BranchTable) (st : State) (s e : Shape) → type_leaf K a (I.BrTable table) s ≡ Some e → FitsOf a s st.core → StoreFits o K st.core.store → GoodOf a st.core (FitsOf a e) (jumping 1 (branch_table table.labels table.last) st)
+  br_table_good a table st s e h f sf =
+      let b = bind_some (slice_get a.labels table.last) (λ us. pops o.types (I32 ∷ []) s >>= table_branch K a table.labels us) e h in
+      let c = bind_some (pops o.types (I32 ∷ []) s) (table_branch K a table.labels b.mid) e b.then in
+      let g = given_some (list_all (could_take K a (length b.mid) c.mid) table.labels) (pops o.types b.mid c.mid >>= Y.stops) e c.then in
       let d = bind_some (pops o.types b.mid c.mid) Y.stops e g.1 in
       popped o good K a st.core (FitsOf a e) (I32 ∷ []) 1 st s c.mid _ refl c.first f (λ vs below split hv hb r set.
-      i32_one o (allocated st.core.store) (λ vs. GoodOf a st.core (FitsOf a e) (land st below (branch_table ks k vs))) vs hv (λ n.
-      with_below a st (FitsOf a e) below _ (chosen c.mid b.mid (with_stack st below) (below_fits a s c.mid st below f hb r set) sf g.0 b.first d.mid d.first (slice_get ks n) (λ j q. taken_at (could_take K a (length b.mid) c.mid) ks n j g.0 q))))
+      i32_one o (allocated st.core.store) (λ vs. GoodOf a st.core (FitsOf a e) (land st below (branch_table table.labels table.last vs))) vs hv (λ n.
+      with_below a st (FitsOf a e) below _ (chosen c.mid b.mid (with_stack st below) (below_fits a s c.mid st below f hb r set) sf g.0 b.first d.mid d.first (slice_get table.labels n) (λ j q. taken_at (could_take K a (length b.mid) c.mid) table.labels n j g.0 q))))
     where
       taken_at : (test : ℕ → Bool) (js : List ℕ) (n j : ℕ) → list_all test js ≡ true → slice_get js n ≡ Some j → test j ≡ true
       taken_at test [] n j t q = absurd (none-some j q)
@@ -284,6 +285,6 @@ module _ (o : Outline) (good : GoodTypes o.types) (funcs : GoodFuncs o) (gs : Li
           by None q z = absurd (true≢false (sym z))
           by (Some u) q z = branches a j vs m u (FitsOf a e) c l q fm sm
 
-      chosen : (m : Shape) (us : List ValType) (c : State) → FitsOf a m c.core → StoreFits o K c.core.store → list_all (could_take K a (length us) m) ks ≡ true → slice_get a.labels k ≡ Some us → (u : Shape) → pops o.types us m ≡ Some u → (p : Option ℕ) → ((j : ℕ) → p ≡ Some j → could_take K a (length us) m j ≡ true) → GoodOf a c.core (FitsOf a e) (out (branch (unwrap_or p k)) c)
-      chosen m us c fm sm t l u q None z = branches a k us m u (FitsOf a e) c l q fm sm
+      chosen : (m : Shape) (us : List ValType) (c : State) → FitsOf a m c.core → StoreFits o K c.core.store → list_all (could_take K a (length us) m) table.labels ≡ true → slice_get a.labels table.last ≡ Some us → (u : Shape) → pops o.types us m ≡ Some u → (p : Option ℕ) → ((j : ℕ) → p ≡ Some j → could_take K a (length us) m j ≡ true) → GoodOf a c.core (FitsOf a e) (out (branch (unwrap_or p table.last)) c)
+      chosen m us c fm sm t l u q None z = branches a table.last us m u (FitsOf a e) c l q fm sm
       chosen m us c fm sm t l u q (Some j) z = one m c us j fm sm (slice_get a.labels j) refl (z j refl)

@@ -190,11 +190,11 @@ module _ (k : ℕ) where
     leaf_more : (i : Instr) (s : State) → s.steps ≤ n → MoreFrom (exec_leaf o enters i) (exec_leaf o to i) s
     leaf_more (I.Br j) s le = alike _ _ (omega arith)
     leaf_more (I.BrIf j) s le = jumping_more 1 (branch_if j) s
-    leaf_more (I.BrTable js j) s le = jumping_more 1 (branch_table js j) s
+    leaf_more (I.BrTable table) s le = jumping_more 1 (branch_table table.labels table.last) s
     leaf_more (I.BrOnNull j) s le = jumping_more 1 (branch_null j) s
     leaf_more (I.BrOnNonNull j) s le = jumping_more 1 (branch_non_null j) s
-    leaf_more (I.BrOnCast j a b) s le = jumping_more 1 (branch_cast o a b (branch j) normal (allocated s.core.store)) s
-    leaf_more (I.BrOnCastFail j a b) s le = jumping_more 1 (branch_cast o a b normal (branch j) (allocated s.core.store)) s
+    leaf_more (I.BrOnCast arg) s le = jumping_more 1 (branch_cast o arg.of arg.to (branch arg.label) normal (allocated s.core.store)) s
+    leaf_more (I.BrOnCastFail arg) s le = jumping_more 1 (branch_cast o arg.of arg.to normal (branch arg.label) (allocated s.core.store)) s
     leaf_more I.Return s le = alike _ _ (omega arith)
     leaf_more (I.Call f) s le = call_more f s le
     leaf_more (I.CallRef x) s le = pop_more 1 s _ _ (omega arith) (λ vs below. called_more (by_reference o x vs) _ _ (with_stack s below) (λ f. call_more f (with_stack s below) le))

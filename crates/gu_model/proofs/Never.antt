@@ -131,11 +131,11 @@ module _ (o : Outline) (good : GoodTypes o.types) (funcs : GoodFuncs o) (gs : Li
     leaf_good a I.ExternConvertAny st s e h f sf = to_extern_good o good funcs gs ts es segs declared a st s e h f sf
     leaf_good a (I.Br k) st s e h f sf = br_good o good funcs gs ts es segs declared a k st s e h f sf
     leaf_good a (I.BrIf k) st s e h f sf = br_if_good o good funcs gs ts es segs declared a k st s e h f sf
-    leaf_good a (I.BrTable ks k) st s e h f sf = br_table_good o good funcs gs ts es segs declared a ks k st s e h f sf
+    leaf_good a (I.BrTable table) st s e h f sf = br_table_good o good funcs gs ts es segs declared a table st s e h f sf
     leaf_good a (I.BrOnNull k) st s e h f sf = on_null_good o good funcs gs ts es segs declared a k st s e h f sf
     leaf_good a (I.BrOnNonNull k) st s e h f sf = on_non_null_good o good funcs gs ts es segs declared a k st s e h f sf
-    leaf_good a (I.BrOnCast k x y) st s e h f sf = on_cast_good o good funcs gs ts es segs declared a k x y st s e h f sf
-    leaf_good a (I.BrOnCastFail k x y) st s e h f sf = on_cast_fail_good o good funcs gs ts es segs declared a k x y st s e h f sf
+    leaf_good a (I.BrOnCast arg) st s e h f sf = on_cast_good o good funcs gs ts es segs declared a arg st s e h f sf
+    leaf_good a (I.BrOnCastFail arg) st s e h f sf = on_cast_fail_good o good funcs gs ts es segs declared a arg st s e h f sf
     leaf_good a I.Return st s e h f sf = return_good o good funcs gs ts es segs declared a st s e h f sf
     leaf_good a (I.Call x) st s e h f sf = call_typed o good funcs gs ts es segs declared enters ge a x st s e h f sf
     leaf_good a (I.CallRef x) st s e h f sf = call_ref_typed o good funcs gs ts es segs declared enters ge a x st s e h f sf

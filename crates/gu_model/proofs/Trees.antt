@@ -1,7 +1,7 @@
 -- A list of instructions that is cut has the tree that is cut.
 use Rattle.std.proofs.Common.{Bool, true, false, cond, List, [], ◌∷◌, map, ◌≡◌, refl, ap, ◌∙◌, sym}
 use Rattle.gu_syntax.specs.declared.instr.Instr as I
-use Rattle.gu_syntax.specs.declared.instr.Instr.{Instr, Row_of-Instr, end_of-Instr, more_of-Instr}
+use Rattle.gu_syntax.specs.declared.instr.Instr.{Instr, Row_of-Instr, end_of-Instr, more_of-Instr, more_of-Structured, more_of-Choice, more_of-Guarded}
 use Rattle.gu_syntax.specs.declared.module.Func.{Func}
 use Rattle.gu_syntax.specs.Code.{Ins, Code, block, loop, choice, try_table, done, next, ins_of, code_of, code_row, instr_of, list_of}
 use Rattle.gu_syntax.proofs.Back.{list_back}
@@ -16,10 +16,10 @@ mutual
   unfolding ins_of code_row
 
   ins_kept : (i : Instr) → ins_of (instr_of (cut_ins (ins_of i))) ≡ cut_ins (ins_of i)
-  ins_kept (I.Block' ty s r) = ins_of-Block ty (record { code = list_of (cut (code_row r)) }) ∙ ap (block ty) (row_kept r)
-  ins_kept (I.Loop' ty s r) = ins_of-Loop ty (record { code = list_of (cut (code_row r)) }) ∙ ap (loop ty) (row_kept r)
-  ins_kept (I.If' ty s r s' r') = ins_of-If ty (record { code = list_of (cut (code_row r)) }) (record { code = list_of (cut (code_row r')) }) ∙ ap (λ c. choice ty c (code_of (list_of (cut (code_row r'))))) (row_kept r) ∙ ap (choice ty (cut (code_row r))) (row_kept r')
-  ins_kept (I.TryTable' ty cs s r) = ins_of-TryTable ty cs (record { code = list_of (cut (code_row r)) }) ∙ ap (try_table ty cs) (row_kept r)
+  ins_kept (I.Block' boxed (more_of-Structured ty s r rest)) = ins_of-Block (record { ty = ty; body = record { code = list_of (cut (code_row r)) } }) ∙ ap (block ty) (row_kept r)
+  ins_kept (I.Loop' boxed (more_of-Structured ty s r rest)) = ins_of-Loop (record { ty = ty; body = record { code = list_of (cut (code_row r)) } }) ∙ ap (loop ty) (row_kept r)
+  ins_kept (I.If' boxed (more_of-Choice ty s r s' r' rest)) = ins_of-If (record { ty = ty; yes = record { code = list_of (cut (code_row r)) }; no = record { code = list_of (cut (code_row r')) } }) ∙ ap (λ c. choice ty c (code_of (list_of (cut (code_row r'))))) (row_kept r) ∙ ap (choice ty (cut (code_row r))) (row_kept r')
+  ins_kept (I.TryTable' boxed (more_of-Guarded ty cs s r rest)) = ins_of-TryTable (record { ty = ty; catches = cs; body = record { code = list_of (cut (code_row r)) } }) ∙ ap (try_table ty cs) (row_kept r)
   ins_kept i = refl
 
   row_kept : {n : _} (r : Row_of-Instr n) → code_of (list_of (cut (code_row r))) ≡ cut (code_row r)

@@ -278,11 +278,11 @@ module _ (o : Outline) (enters : (func : ℕ) → State → Out) where
   abbrev pub exec_leaf : Instr → State → Out
   exec_leaf (I.Br k) s = out (branch k) s
   exec_leaf (I.BrIf k) s = jumping 1 (branch_if k) s
-  exec_leaf (I.BrTable ks k) s = jumping 1 (branch_table ks k) s
+  exec_leaf (I.BrTable table) s = jumping 1 (branch_table table.labels table.last) s
   exec_leaf (I.BrOnNull k) s = jumping 1 (branch_null k) s
   exec_leaf (I.BrOnNonNull k) s = jumping 1 (branch_non_null k) s
-  exec_leaf (I.BrOnCast k a b) s = jumping 1 (branch_cast o a b (branch k) normal (allocated s.core.store)) s
-  exec_leaf (I.BrOnCastFail k a b) s = jumping 1 (branch_cast o a b normal (branch k) (allocated s.core.store)) s
+  exec_leaf (I.BrOnCast arg) s = jumping 1 (branch_cast o arg.of arg.to (branch arg.label) normal (allocated s.core.store)) s
+  exec_leaf (I.BrOnCastFail arg) s = jumping 1 (branch_cast o arg.of arg.to normal (branch arg.label) (allocated s.core.store)) s
   exec_leaf I.Return s = out return s
   exec_leaf (I.Call f) s = do_call f s
   exec_leaf (I.CallRef x) s = pop 1 s (λ vs below. called (by_reference o x vs) do_call (with_stack s below))

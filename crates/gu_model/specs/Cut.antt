@@ -11,7 +11,7 @@ use Rattle.gu_syntax.specs.Code.{Ins, Code, leaf, block, loop, choice, try_table
 abbrev pub leaves : Instr → Bool
 leaves I.Unreachable = true
 leaves (I.Br label) = true
-leaves (I.BrTable labels last) = true
+leaves (I.BrTable table) = true
 leaves I.Return = true
 leaves (I.ReturnCall func) = true
 leaves (I.ReturnCallIndirect type table) = true

@@ -129,8 +129,8 @@ module _ (C : Context) where
   control_row a I.ThrowRef = Some (leaves (abs_or_null A.Exn ∷ []))
   control_row a (I.Br l) = slice_get a.labels l >>= λ ts. Some (leaves ts)
   control_row a (I.BrIf l) = slice_get a.labels l >>= λ ts. Some (goes (ts ++ I32 ∷ []) ts)
-  control_row a (I.BrOnCast l from to) = casts_to (slice_get a.labels l) from to to (minus from to)
-  control_row a (I.BrOnCastFail l from to) = casts_to (slice_get a.labels l) from to (minus from to) to
+  control_row a (I.BrOnCast arg) = casts_to (slice_get a.labels arg.label) arg.of arg.to arg.to (minus arg.of arg.to)
+  control_row a (I.BrOnCastFail arg) = casts_to (slice_get a.labels arg.label) arg.of arg.to (minus arg.of arg.to) arg.to
   control_row a I.Return = Some (leaves a.results)
   control_row a (I.SelectOf ts) = select_row ts
   control_row a i = call_row a i
@@ -184,7 +184,7 @@ module _ (C : Context) where
   type_leaf a I.RefAsNonNull s = pop_kind s (λ k u. non_null k >>= λ r. push r u)
   type_leaf a (I.BrOnNull l) s = type_br_on_null (slice_get a.labels l) s
   type_leaf a (I.BrOnNonNull l) s = type_br_on_non_null (slice_get a.labels l) s
-  type_leaf a (I.BrTable ls l) s = type_br_table a ls (slice_get a.labels l) s
+  type_leaf a (I.BrTable table) s = type_br_table a table.labels (slice_get a.labels table.last) s
   type_leaf a I.AnyConvertExtern s = pop_kind s (converts A.Extern A.Any)
   type_leaf a I.ExternConvertAny s = pop_kind s (converts A.Any A.Extern)
   type_leaf a i s = type_row C.types (control_row a i) s
