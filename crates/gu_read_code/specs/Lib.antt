@@ -1,5 +1,4 @@
 pub mod Codes
-pub mod Casts
 pub mod Nested
 pub mod Entries
 pub mod Runs

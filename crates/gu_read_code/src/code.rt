@@ -8,8 +8,9 @@ ghost use Rattle.gu_read_code.specs.Nested.{branch_of};
 
 use crate::blocks::{Catches, read_block_type};
 use crate::leaf::read_leaf;
+use gu_boxed::Boxed;
 use gu_read_parts::{Asked, Stop, read_vector};
-use gu_syntax::{Body, Instr};
+use gu_syntax::{Body, Choice, Guarded, Instr, Structured};
 use gu_types::List;
 use std::alloc::{AllocError, Global};
 
@@ -127,7 +128,9 @@ fn read_block(alloc: Global, room: u32, bytes: &[u8]) -> Result<(Instr, &[u8]), 
     }
     let (ty, rest) = read_block_type(bytes)?;
     let (inner, rest) = read_until(alloc, room - 1, false, rest)?;
-    Ok((Instr::Block(ty, inner.code), rest))
+    let body = inner.code;
+    let block = Boxed::new(alloc, Structured { ty, body })?;
+    Ok((Instr::Block(block), rest))
 }
 
 /// A loop.
@@ -142,7 +145,9 @@ fn read_loop(alloc: Global, room: u32, bytes: &[u8]) -> Result<(Instr, &[u8]), S
     }
     let (ty, rest) = read_block_type(bytes)?;
     let (inner, rest) = read_until(alloc, room - 1, false, rest)?;
-    Ok((Instr::Loop(ty, inner.code), rest))
+    let body = inner.code;
+    let block = Boxed::new(alloc, Structured { ty, body })?;
+    Ok((Instr::Loop(block), rest))
 }
 
 /// An `if`, whose second branch is empty where `else` is missing.
@@ -157,12 +162,17 @@ fn read_if(alloc: Global, room: u32, bytes: &[u8]) -> Result<(Instr, &[u8]), Sto
     }
     let (ty, rest) = read_block_type(bytes)?;
     let (first, rest) = read_until(alloc, room - 1, true, rest)?;
+    let yes = first.code;
     if first.at_else {
         let (second, rest) = read_until(alloc, room - 1, false, rest)?;
-        return Ok((Instr::If(ty, first.code, second.code), rest));
+        let no = second.code;
+        let choice = Boxed::new(alloc, Choice { ty, yes, no })?;
+        return Ok((Instr::If(choice), rest));
     }
     let code = List::new(alloc);
-    Ok((Instr::If(ty, first.code, Body { code }), rest))
+    let no = Body { code };
+    let choice = Boxed::new(alloc, Choice { ty, yes, no })?;
+    Ok((Instr::If(choice), rest))
 }
 
 /// A block whose exceptions catch clauses take.
@@ -178,7 +188,9 @@ fn read_try_table(alloc: Global, room: u32, bytes: &[u8]) -> Result<(Instr, &[u8
     let (ty, rest) = read_block_type(bytes)?;
     let (catches, rest) = read_vector::<Catches>(alloc, rest)?;
     let (inner, rest) = read_until(alloc, room - 1, false, rest)?;
-    Ok((Instr::TryTable(ty, catches, inner.code), rest))
+    let body = inner.code;
+    let guarded = Boxed::new(alloc, Guarded { ty, catches, body })?;
+    Ok((Instr::TryTable(guarded), rest))
 }
 
 /// A block is opened before these bytes where as many are open as may be.

@@ -1,7 +1,7 @@
 use super::*;
 use gu_bytes::Cursor;
 use gu_read_parts::{ReadErr, Which};
-use gu_syntax::{BlockType, Instr};
+use gu_syntax::{BlockType, Choice, Instr};
 use gu_types::ValType;
 use std::alloc::{AllocError, Global};
 use std::process::Abort;
@@ -162,8 +162,11 @@ fn runs_are_merged_and_an_empty_else_goes(rt: HostRuntime) -> Result<(), Fail> {
         [(3, ValType::I32), (1, ValType::I64)].as_slice()
     );
     let is_whole = match body.code.as_slice() {
-        [Instr::I32Const(0), Instr::If(BlockType::Empty, yes, no)] => {
-            yes.code.as_slice().is_empty() && no.code.as_slice().is_empty()
+        [Instr::I32Const(0), Instr::If(boxed)] => {
+            let Choice { ty, yes, no } = boxed.get();
+            *ty == BlockType::Empty
+                && yes.code.as_slice().is_empty()
+                && no.code.as_slice().is_empty()
         }
         _ => false,
     };

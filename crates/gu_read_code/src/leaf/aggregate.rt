@@ -2,13 +2,14 @@
 ghost use Rattle.std.specs.Prelude.{◌≡◌, ◌+◌, ◌<◌, ◌≤◌, suc, length, IfOk};
 ghost use Rattle.gu_syntax.specs.Instructions.{Unknown, row_or, aggregate_rows};
 ghost use Rattle.gu_syntax.specs.Reading.{form_at, cast_at, cast_behind};
-ghost use Rattle.gu_read_parts.specs.Gives.{Gives, GivesAs, left_of};
-ghost use Rattle.gu_read_code.specs.Casts.{cast_arg};
+ghost use Rattle.gu_read_parts.specs.Gives.{Gives, left_of};
 ghost use Rattle.gu_read_code.specs.Codes.{Lacks, structure_codes, array_codes};
 
+use gu_boxed::Boxed;
 use gu_read_parts::{Asked, Stop, read_heap, read_u32};
-use gu_syntax::Instr;
+use gu_syntax::{CastBranch, Instr};
 use gu_types::RefType;
+use std::alloc::Global;
 
 /// A test or a cast to a reference type, with or without null.
 macro_rules! with_reference {
@@ -21,22 +22,19 @@ macro_rules! with_reference {
 
 /// A branch on a cast.
 macro_rules! with_cast {
-    ($make:path, $bytes:expr) => {{
+    ($make:path, $alloc:expr, $bytes:expr) => {{
         let (arg, rest) = read_cast_arg($bytes)?;
-        Ok(($make(arg.label, arg.of, arg.to), rest))
+        Ok(($make(Boxed::new($alloc, arg)?), rest))
     }};
 }
 
-/// The label and the two types of a branch on a cast.
-#[derive(Clone, Copy, Debug)]
-struct CastArg {
-    label: u32,
-    of: RefType,
-    to: RefType,
-}
-
 /// Behind FB: structures (5.4.2 Reference Instructions). `left` bytes are left at the prefix.
-pub fn read_structure(code: u32, left: usize, bytes: &[u8]) -> Result<(Instr, &[u8]), Stop>
+pub fn read_structure(
+    alloc: Global,
+    code: u32,
+    left: usize,
+    bytes: &[u8],
+) -> Result<(Instr, &[u8]), Stop>
     requires place { length bytes.now < left }
     ensures value { Gives result (form_at left (row_or Unknown aggregate_rows code) bytes.now) }
     ensures inside { left_of result ≤ left }
@@ -49,12 +47,17 @@ pub fn read_structure(code: u32, left: usize, bytes: &[u8]) -> Result<(Instr, &[
         3 => with_pair!(Instr::StructGetS, bytes),
         4 => with_pair!(Instr::StructGetU, bytes),
         5 => with_pair!(Instr::StructSet, bytes),
-        _ => read_array(code, left, bytes),
+        _ => read_array(alloc, code, left, bytes),
     }
 }
 
 /// Behind FB: arrays.
-fn read_array(code: u32, left: usize, bytes: &[u8]) -> Result<(Instr, &[u8]), Stop>
+fn read_array(
+    alloc: Global,
+    code: u32,
+    left: usize,
+    bytes: &[u8],
+) -> Result<(Instr, &[u8]), Stop>
     requires structure { Lacks structure_codes code }
     requires place { length bytes.now < left }
     ensures value { Gives result (form_at left (row_or Unknown aggregate_rows code) bytes.now) }
@@ -76,12 +79,17 @@ fn read_array(code: u32, left: usize, bytes: &[u8]) -> Result<(Instr, &[u8]), St
         17 => with_pair!(Instr::ArrayCopy, bytes),
         18 => with_pair!(Instr::ArrayInitData, bytes),
         19 => with_pair!(Instr::ArrayInitElem, bytes),
-        _ => read_cast(code, left, bytes),
+        _ => read_cast(alloc, code, left, bytes),
     }
 }
 
 /// Behind FB: casts, external and unboxed references.
-fn read_cast(code: u32, left: usize, bytes: &[u8]) -> Result<(Instr, &[u8]), Stop>
+fn read_cast(
+    alloc: Global,
+    code: u32,
+    left: usize,
+    bytes: &[u8],
+) -> Result<(Instr, &[u8]), Stop>
     requires structure { Lacks structure_codes code }
     requires array { Lacks array_codes code }
     requires place { length bytes.now < left }
@@ -94,8 +102,8 @@ fn read_cast(code: u32, left: usize, bytes: &[u8]) -> Result<(Instr, &[u8]), Sto
         21 => with_reference!(Instr::RefTest, true, bytes),
         22 => with_reference!(Instr::RefCast, false, bytes),
         23 => with_reference!(Instr::RefCast, true, bytes),
-        24 => with_cast!(Instr::BrOnCast, bytes),
-        25 => with_cast!(Instr::BrOnCastFail, bytes),
+        24 => with_cast!(Instr::BrOnCast, alloc, bytes),
+        25 => with_cast!(Instr::BrOnCastFail, alloc, bytes),
         26 => Ok((Instr::AnyConvertExtern, bytes)),
         27 => Ok((Instr::ExternConvertAny, bytes)),
         28 => Ok((Instr::RefI31, bytes)),
@@ -109,8 +117,8 @@ fn read_cast(code: u32, left: usize, bytes: &[u8]) -> Result<(Instr, &[u8]), Sto
 }
 
 /// The flags, the label and the two heap types of a branch on a cast (5.4.1 Control Instructions).
-fn read_cast_arg(bytes: &[u8]) -> Result<(CastArg, &[u8]), Stop>
-    ensures value { GivesAs cast_arg result (cast_at bytes.now) }
+fn read_cast_arg(bytes: &[u8]) -> Result<(CastBranch, &[u8]), Stop>
+    ensures value { Gives result (cast_at bytes.now) }
     ensures inside { left_of result ≤ length bytes.now }
 {
     match bytes.split_first() {
@@ -126,14 +134,14 @@ fn read_cast_arg(bytes: &[u8]) -> Result<(CastArg, &[u8]), Stop>
 }
 
 /// The label and the two heap types, where the flags say which types have null.
-fn read_cast_behind(of_null: bool, to_null: bool, bytes: &[u8]) -> Result<(CastArg, &[u8]), Stop>
-    ensures value { GivesAs cast_arg result (cast_behind of_null to_null bytes.now) }
+fn read_cast_behind(of_null: bool, to_null: bool, bytes: &[u8]) -> Result<(CastBranch, &[u8]), Stop>
+    ensures value { Gives result (cast_behind of_null to_null bytes.now) }
     ensures inside { left_of result ≤ length bytes.now }
 {
     let (label, rest) = read_u32(bytes)?;
     let (of_heap, rest) = read_heap(rest)?;
     let (to_heap, rest) = read_heap(rest)?;
-    let arg = CastArg {
+    let arg = CastBranch {
         label,
         of: RefType {
             null: of_null,

@@ -1,13 +1,15 @@
 //! Control instructions that hold no code.
 ghost use Rattle.std.specs.Prelude.{◌≡◌, ◌+◌, ◌<◌, ◌≤◌, suc, length, IfOk};
+ghost use Rattle.gu_syntax.specs.Instructions.{labels_of};
 ghost use Rattle.gu_syntax.specs.Reading.{leaf_at, made_at, both_at, vector_at, u32_at};
 ghost use Rattle.gu_read_parts.specs.Gives.{Gives, left_of};
 ghost use Rattle.gu_read_code.specs.Codes.{Lacks, variable_codes};
 ghost use Rattle.gu_syntax.specs.declared.instr.Instr.TheVariants as I;
 
 use crate::leaf::reference::read_reference;
+use gu_boxed::Boxed;
 use gu_read_parts::{Index, Stop, read_u32, read_vector};
-use gu_syntax::Instr;
+use gu_syntax::{BranchTable, Instr};
 use std::alloc::Global;
 
 /// Control instructions that hold no code (5.4.1 Control Instructions).
@@ -39,10 +41,11 @@ pub fn read_control(alloc: Global, op: u8, bytes: &[u8]) -> Result<(Instr, &[u8]
 
 /// A branch to one of several labels.
 fn read_branches(alloc: Global, bytes: &[u8]) -> Result<(Instr, &[u8]), Stop>
-    ensures value { Gives result (made_at (λ x. I.BrTable x.0 x.1) (both_at (vector_at u32_at) u32_at) bytes.now) }
+    ensures value { Gives result (made_at (λ x. I.BrTable (labels_of x)) (both_at (vector_at u32_at) u32_at) bytes.now) }
     ensures inside { left_of result ≤ length bytes.now }
 {
     let (labels, rest) = read_vector::<Index>(alloc, bytes)?;
     let (last, rest) = read_u32(rest)?;
-    Ok((Instr::BrTable(labels, last), rest))
+    let table = Boxed::new(alloc, BranchTable { labels, last })?;
+    Ok((Instr::BrTable(table), rest))
 }

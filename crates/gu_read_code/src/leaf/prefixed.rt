@@ -15,7 +15,7 @@ use gu_syntax::Instr;
 use std::alloc::Global;
 
 /// Instructions that have a number behind a prefix.
-pub fn read_prefixed(_: Global, op: u8, bytes: &[u8]) -> Result<(Instr, &[u8]), Stop>
+pub fn read_prefixed(alloc: Global, op: u8, bytes: &[u8]) -> Result<(Instr, &[u8]), Stop>
     requires variable { Lacks variable_codes op }
     requires control { Lacks control_codes op }
     requires reference { Lacks reference_codes op }
@@ -36,7 +36,7 @@ pub fn read_prefixed(_: Global, op: u8, bytes: &[u8]) -> Result<(Instr, &[u8]), 
         });
     };
     if op == 0xFB {
-        read_structure(code, left, rest)
+        read_structure(alloc, code, left, rest)
     } else {
         read_bulk(code, left, rest)
     }

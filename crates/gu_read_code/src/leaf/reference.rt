@@ -6,6 +6,7 @@ ghost use Rattle.gu_read_code.specs.Codes.{Lacks, variable_codes, control_codes}
 ghost use Rattle.gu_syntax.specs.declared.instr.Instr.TheVariants as I;
 
 use crate::leaf::access::read_load;
+use gu_boxed::Boxed;
 use gu_read_parts::{Stop, Values, read_heap, read_u32, read_vector};
 use gu_syntax::Instr;
 use std::alloc::Global;
@@ -40,7 +41,7 @@ fn read_select_of(alloc: Global, bytes: &[u8]) -> Result<(Instr, &[u8]), Stop>
     ensures inside { left_of result ≤ length bytes.now }
 {
     let (types, rest) = read_vector::<Values>(alloc, bytes)?;
-    Ok((Instr::SelectOf(types), rest))
+    Ok((Instr::SelectOf(Boxed::new(alloc, types)?), rest))
 }
 
 /// The null of a heap type.

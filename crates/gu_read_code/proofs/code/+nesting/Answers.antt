@@ -1,6 +1,10 @@
 use Rattle.std.proofs.Common.{◌<◌, ◌∙◌, suc, sym, ap, length, arith, rules}
 use Rattle.std.proofs.lemmas.Result.{err_from_is_err_and}
-use Rattle.gu_syntax.specs.Code.{Ins, block, loop, choice, code_of}
+use Rattle.gu_syntax.specs.Code.{Ins, block, loop, choice, code_of, ins_of}
+use Rattle.gu_syntax.specs.declared.instr.Structured.{Structured}
+use Rattle.gu_syntax.specs.declared.instr.Choice.{Choice}
+use Rattle.gu_syntax.specs.declared.instr.Guarded.{Guarded}
+use Rattle.gu_syntax.specs.declared.instr.Instr.TheVariants.{Block, Loop, If, TryTable}
 use Rattle.gu_syntax.specs.Reading.{got, until_at}
 use Rattle.gu_syntax.proofs.Shapes.{ins_of-Block, ins_of-Loop, ins_of-If, ins_of-TryTable}
 use Rattle.gu_read_code.specs.Nested.{branch_of}
@@ -20,7 +24,7 @@ pub read_block-returns-clause-value : goal.read_block-returns-clause-value
 read_block-returns-clause-value t c = λ fuel enough.
     let low : 0 < c.args.room = omega arith in
     block_got block (until_at fuel) c.args.room (suc (length c.args.bytes.now)) c.args.bytes.now c.in_ok-ty.rest.now c.in_ok-inner.rest.now c.in_ok-ty.ty (branch_of c.in_ok-inner.inner) low c.in_ok-ty.ensures.value (c.in_ok-inner.ensures.value fuel (omega (arith, enough, c.in_ok-ty.ensures.inside)))
-    ∙ ap (λ (i : Ins). got i c.in_ok-inner.rest.now) (sym (ins_of-Block c.in_ok-ty.ty c.in_ok-inner.inner.code))
+    ∙ ap (λ (i : Ins). got i c.in_ok-inner.rest.now) (sym (ap (λ (b : Structured). ins_of (Block b)) c.in_ok-block.ensures ∙ ins_of-Block (record { ty = c.in_ok-ty.ty; body = c.in_ok-inner.inner.code })))
 
 pub read_loop-returns-in_err-inner-clause-value : goal.read_loop-returns-in_err-inner-clause-value
 read_loop-returns-in_err-inner-clause-value t c = λ fuel enough.
@@ -32,7 +36,7 @@ pub read_loop-returns-clause-value : goal.read_loop-returns-clause-value
 read_loop-returns-clause-value t c = λ fuel enough.
     let low : 0 < c.args.room = omega arith in
     block_got loop (until_at fuel) c.args.room (suc (length c.args.bytes.now)) c.args.bytes.now c.in_ok-ty.rest.now c.in_ok-inner.rest.now c.in_ok-ty.ty (branch_of c.in_ok-inner.inner) low c.in_ok-ty.ensures.value (c.in_ok-inner.ensures.value fuel (omega (arith, enough, c.in_ok-ty.ensures.inside)))
-    ∙ ap (λ (i : Ins). got i c.in_ok-inner.rest.now) (sym (ins_of-Loop c.in_ok-ty.ty c.in_ok-inner.inner.code))
+    ∙ ap (λ (i : Ins). got i c.in_ok-inner.rest.now) (sym (ap (λ (b : Structured). ins_of (Loop b)) c.in_ok-block.ensures ∙ ins_of-Loop (record { ty = c.in_ok-ty.ty; body = c.in_ok-inner.inner.code })))
 
 pub read_if-returns-in_err-first-clause-value : goal.read_if-returns-in_err-first-clause-value
 read_if-returns-in_err-first-clause-value t c = λ fuel enough.
@@ -44,7 +48,7 @@ pub read_if-returns-clause-value : goal.read_if-returns-clause-value
 read_if-returns-clause-value t c = λ fuel enough.
     let low : 0 < c.args.room = omega arith in
     if_alone (until_at fuel) c.args.room (suc (length c.args.bytes.now)) c.args.bytes.now c.in_ok-ty.rest.now c.in_ok-first.rest.now c.in_ok-ty.ty (code_of c.in_ok-first.first.code.code) c.in_ok-first.first.at_else low c.in_ok-ty.ensures.value (c.in_ok-first.ensures.value fuel (omega (arith, enough, c.in_ok-ty.ensures.inside))) c.if-first.false
-    ∙ ap (λ (i : Ins). got i c.in_ok-first.rest.now) (sym (ins_of-If c.in_ok-ty.ty c.in_ok-first.first.code (record { code = c.new-code.result }) ∙ ap (λ is. choice c.in_ok-ty.ty (code_of c.in_ok-first.first.code.code) (code_of is)) c.new-code.ensures))
+    ∙ ap (λ (i : Ins). got i c.in_ok-first.rest.now) (sym (ap (λ (b : Choice). ins_of (If b)) c.in_ok-choice-2.ensures ∙ ins_of-If (record { ty = c.in_ok-ty.ty; yes = c.in_ok-first.first.code; no = record { code = c.new-code.result } }) ∙ ap (λ is. choice c.in_ok-ty.ty (code_of c.in_ok-first.first.code.code) (code_of is)) c.new-code.ensures))
 
 pub read_if-returns-in_err-second-clause-value : goal.read_if-returns-in_err-second-clause-value
 read_if-returns-in_err-second-clause-value t c = λ fuel enough.
@@ -56,7 +60,7 @@ pub read_if-returns-then-first-clause-value : goal.read_if-returns-then-first-cl
 read_if-returns-then-first-clause-value t c = λ fuel enough.
     let low : 0 < c.args.room = omega arith in
     if_got (until_at fuel) c.args.room (suc (length c.args.bytes.now)) c.args.bytes.now c.in_ok-ty.rest.now c.in_ok-first.rest.now c.in_ok-second.rest.now c.in_ok-ty.ty (code_of c.in_ok-first.first.code.code) c.in_ok-first.first.at_else (branch_of c.in_ok-second.second) low c.in_ok-ty.ensures.value (c.in_ok-first.ensures.value fuel (omega (arith, enough, c.in_ok-ty.ensures.inside))) c.if-first.true (c.in_ok-second.ensures.value fuel (omega (arith, enough, c.in_ok-ty.ensures.inside, c.in_ok-first.ensures.inside)))
-    ∙ ap (λ (i : Ins). got i c.in_ok-second.rest.now) (sym (ins_of-If c.in_ok-ty.ty c.in_ok-first.first.code c.in_ok-second.second.code))
+    ∙ ap (λ (i : Ins). got i c.in_ok-second.rest.now) (sym (ap (λ (b : Choice). ins_of (If b)) c.in_ok-choice.ensures ∙ ins_of-If (record { ty = c.in_ok-ty.ty; yes = c.in_ok-first.first.code; no = c.in_ok-second.second.code })))
 
 pub read_try_table-returns-in_err-catches-clause-value : goal.read_try_table-returns-in_err-catches-clause-value
 read_try_table-returns-in_err-catches-clause-value t c = λ fuel enough.
@@ -74,7 +78,7 @@ pub read_try_table-returns-clause-value : goal.read_try_table-returns-clause-val
 read_try_table-returns-clause-value t c = λ fuel enough.
     let low : 0 < c.args.room = omega arith in
     try_got (until_at fuel) c.args.room (suc (length c.args.bytes.now)) c.args.bytes.now c.in_ok-ty.rest.now c.in_ok-catches.rest.now c.in_ok-inner.rest.now c.in_ok-ty.ty c.in_ok-catches.catches (branch_of c.in_ok-inner.inner) low c.in_ok-ty.ensures.value c.in_ok-catches.ensures.value (c.in_ok-inner.ensures.value fuel (omega (arith, enough, c.in_ok-ty.ensures.inside, c.in_ok-catches.ensures.inside)))
-    ∙ ap (λ (i : Ins). got i c.in_ok-inner.rest.now) (sym (ins_of-TryTable c.in_ok-ty.ty c.in_ok-catches.catches c.in_ok-inner.inner.code))
+    ∙ ap (λ (i : Ins). got i c.in_ok-inner.rest.now) (sym (ap (λ (b : Guarded). ins_of (TryTable b)) c.in_ok-guarded.ensures ∙ ins_of-TryTable (record { ty = c.in_ok-ty.ty; catches = c.in_ok-catches.catches; body = c.in_ok-inner.inner.code })))
 
 pub read_instr-returns-in_default-clause-value : goal.read_instr-returns-in_default-clause-value
 read_instr-returns-in_default-clause-value t c = λ fuel enough. flat_gives c.read_variable.result (until_at fuel) c.args.room (suc (length c.args.bytes.now)) c.args.op c.args.bytes.now (search rules) c.read_variable.ensures.value
