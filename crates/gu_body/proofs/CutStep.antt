@@ -2,7 +2,7 @@
 use Rattle.std.proofs.Common.{ℕ, ◌+◌, ◌<◌, ◌≤◌, List, [], ◌∷◌, ◌++◌, ◌≡◌, refl, ap, ◌∙◌, sym, take, drop, length, slice_set, get_or, true, false, cond, arith, map, append_assoc}
 use Rattle.std.proofs.lemmas.List.{take_more_set, drop-set-lt, drop_more, at_drop_all, append-nil, take_all}
 use Rattle.gu_syntax.specs.declared.instr.Instr as I
-use Rattle.gu_syntax.specs.declared.instr.Instr.{Instr}
+use Rattle.gu_syntax.specs.declared.instr.Instr.{Instr, more_of-Structured, more_of-Choice, more_of-Guarded}
 use Rattle.gu_syntax.specs.Code.{Ins, Code, leaf, block, loop, choice, try_table, done, next, ins_of, code_of}
 use Rattle.gu_model.specs.Cut.{leaves, leaves_ins, cut, cut_ins}
 
@@ -13,10 +13,10 @@ with_front (i ∷ is) c = next (ins_of i) (with_front is c)
 
 pub leaves_of : (i : Instr) → leaves_ins (ins_of i) ≡ leaves i
 unfolding ins_of
-leaves_of (I.Block' ty s r) = refl
-leaves_of (I.Loop' ty s r) = refl
-leaves_of (I.If' ty s r s' r') = refl
-leaves_of (I.TryTable' ty cs s r) = refl
+leaves_of (I.Block' boxed (more_of-Structured ty s r rest)) = refl
+leaves_of (I.Loop' boxed (more_of-Structured ty s r rest)) = refl
+leaves_of (I.If' boxed (more_of-Choice ty s r s' r' rest)) = refl
+leaves_of (I.TryTable' boxed (more_of-Guarded ty cs s r rest)) = refl
 leaves_of i = refl
 
 pub leaves_cut : (i : Ins) → leaves_ins (cut_ins i) ≡ leaves_ins i

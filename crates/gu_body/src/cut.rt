@@ -4,7 +4,7 @@ ghost use Rattle.gu_syntax.specs.Code.{ins_of, code_of};
 ghost use Rattle.gu_model.specs.Cut as dead;
 
 use gu_model::ValidModule;
-use gu_syntax::{Body, Func, Instr, Module};
+use gu_syntax::{Body, Choice, Func, Instr, Module};
 
 /// The module without its dead tails: in each function's body, what follows the first unconditional
 /// branch of each list of instructions is removed, nested lists included (core specification 3.0,
@@ -72,13 +72,14 @@ fn cut_instr(instr: &mut Instr)
     ensures { ins_of instr.new ≡ dead.cut_ins (ins_of instr.old) }
 {
     match instr {
-        Instr::Block(_, body) => cut_tails(body),
-        Instr::Loop(_, body) => cut_tails(body),
-        Instr::If(_, yes, no) => {
+        Instr::Block(boxed) => cut_tails(&mut boxed.get_mut().body),
+        Instr::Loop(boxed) => cut_tails(&mut boxed.get_mut().body),
+        Instr::If(boxed) => {
+            let Choice { yes, no, .. } = boxed.get_mut();
             cut_tails(yes);
             cut_tails(no);
         }
-        Instr::TryTable(_, _, body) => cut_tails(body),
+        Instr::TryTable(boxed) => cut_tails(&mut boxed.get_mut().body),
         _ => {}
     }
 }
@@ -91,7 +92,7 @@ fn leaves(instr: &Instr) -> bool
         instr,
         Instr::Unreachable
             | Instr::Br(_)
-            | Instr::BrTable(_, _)
+            | Instr::BrTable(_)
             | Instr::Return
             | Instr::ReturnCall(_)
             | Instr::ReturnCallIndirect(_, _)
@@ -104,7 +105,8 @@ fn leaves(instr: &Instr) -> bool
 #[cfg(test)]
 mod tests {
     use super::*;
-    use gu_syntax::BlockType;
+    use gu_boxed::Boxed;
+    use gu_syntax::{BlockType, Structured};
     use gu_types::List;
     use std::alloc::{AllocError, Global};
     use std::test::Fail;
@@ -116,7 +118,9 @@ mod tests {
         inner.push(Instr::Br(0))?;
         inner.push(Instr::Nop)?;
         let mut code = List::new(alloc);
-        code.push(Instr::Block(BlockType::Empty, Body { code: inner }))?;
+        let ty = BlockType::Empty;
+        let body = Body { code: inner };
+        code.push(Instr::Block(Boxed::new(alloc, Structured { ty, body })?))?;
         code.push(Instr::Return)?;
         code.push(Instr::Unreachable)?;
         code.push(Instr::Drop)?;
@@ -127,10 +131,11 @@ mod tests {
     fn tails_are_cut_inside_and_outside(rt: HostRuntime) -> Result<(), Fail> {
         let mut body = with_tails(rt.alloc())?;
         cut_tails(&mut body);
-        let [Instr::Block(_, inner), Instr::Return] = body.code.as_slice() else {
+        let [Instr::Block(block), Instr::Return] = body.code.as_slice() else {
             return Err("outside")?;
         };
-        let is_cut = matches!(inner.code.as_slice(), [Instr::BrIf(0), Instr::Br(0)]);
+        let inner = block.get().body.code.as_slice();
+        let is_cut = matches!(inner, [Instr::BrIf(0), Instr::Br(0)]);
         assert!(rt; is_cut);
         Ok(())
     }

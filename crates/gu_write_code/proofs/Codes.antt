@@ -2,10 +2,7 @@
 use Rattle.std.proofs.Common.{ℕ, zero, suc, ◌+◌, ◌<◌, ◌≡◌, List, [], ◌∷◌, ◌++◌, length, get_or, drop, arith, refl, sym, ap, ◌∙◌, length-append, append_assoc}
 use Rattle.std.proofs.lemmas.List.{drop_more}
 use Rattle.gu_syntax.specs.declared.instr.BlockType.{BlockType}
-use Rattle.gu_syntax.specs.declared.instr.Body.{Body}
 use Rattle.gu_syntax.specs.declared.instr.Instr.{Instr}
-use Rattle.gu_syntax.specs.declared.instr.Instr.TheVariants.{If}
-use Rattle.gu_syntax.proofs.Shapes.{ins_of-If}
 use Rattle.gu_syntax.specs.Code.{Code, choice, code_of, ins_of}
 use Rattle.gu_syntax.specs.Encoding.{encode_until, encode_ins, encode_block_type}
 use Rattle.gu_syntax.specs.Shape.{IsShapedCode, IsShapedIns}
@@ -13,19 +10,13 @@ use Rattle.gu_write_parts.proofs.Lengths.{front_past}
 use Rattle.gu_write_code.specs.Layouts.{block_text}
 
 -- an empty second branch is left out
-choice_short : (ty : BlockType) (yes' : Code) (no' : List Instr) → length no' ≡ 0 → encode_ins (choice ty yes' (code_of no')) ≡ block_text 0x04 ty 0x0B yes'
+pub choice_short : (ty : BlockType) (yes' : Code) (no' : List Instr) → length no' ≡ 0 → encode_ins (choice ty yes' (code_of no')) ≡ block_text 0x04 ty 0x0B yes'
 choice_short ty yes' [] h = refl
 choice_short ty yes' (i ∷ is) h = absurd (omega (arith, h))
 
-choice_long : (ty : BlockType) (yes' : Code) (no' : List Instr) → 0 < length no' → encode_ins (choice ty yes' (code_of no')) ≡ block_text 0x04 ty 0x05 yes' ++ encode_until 0x0B (code_of no')
+pub choice_long : (ty : BlockType) (yes' : Code) (no' : List Instr) → 0 < length no' → encode_ins (choice ty yes' (code_of no')) ≡ block_text 0x04 ty 0x05 yes' ++ encode_until 0x0B (code_of no')
 choice_long ty yes' [] h = absurd (omega (arith, h))
 choice_long ty yes' (i ∷ is) h = ap (λ bs. 0x04 ∷ bs) (sym (append_assoc (encode_block_type ty) (encode_until 0x05 yes') (encode_until 0x0B (code_of (i ∷ is)))))
-
-pub short_if : (i : Instr) (ty : BlockType) (yes' no' : Body) → i ≡ If ty yes' no' → length no'.code ≡ 0 → encode_ins (ins_of i) ≡ block_text 0x04 ty 0x0B (code_of yes'.code)
-short_if i ty yes' no' is h = ap encode_ins (ap ins_of is ∙ ins_of-If ty yes' no') ∙ choice_short ty (code_of yes'.code) no'.code h
-
-pub long_if : (i : Instr) (ty : BlockType) (yes' no' : Body) → i ≡ If ty yes' no' → 0 < length no'.code → encode_ins (ins_of i) ≡ block_text 0x04 ty 0x05 (code_of yes'.code) ++ encode_until 0x0B (code_of no'.code)
-long_if i ty yes' no' is h = ap encode_ins (ap ins_of is ∙ ins_of-If ty yes' no') ∙ choice_long ty (code_of yes'.code) no'.code h
 
 -- what holds of the instructions holds of each
 pub shaped_at : (is : List Instr) (k : ℕ) (d : Instr) → k < length is → IsShapedCode (code_of is) → IsShapedIns (ins_of (get_or is k d))

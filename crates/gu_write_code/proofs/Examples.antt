@@ -6,6 +6,7 @@ use Rattle.gu_syntax.specs.Code.{code_of, ins_of}
 use Rattle.gu_syntax.proofs.Shapes.{ins_of-If}
 use Rattle.gu_syntax.specs.declared.instr.BlockType.TheVariants as B
 use Rattle.gu_syntax.specs.declared.instr.Body.{Body}
+use Rattle.gu_syntax.specs.declared.instr.Choice.{Choice}
 use Rattle.gu_syntax.specs.declared.instr.Instr.{Instr}
 use Rattle.gu_syntax.specs.declared.instr.Instr.TheVariants.{Nop, LocalGet, If}
 use Rattle.gu_syntax.specs.declared.module.Func.{Func}
@@ -20,10 +21,10 @@ shaped_get : IsShapedIns (ins_of (LocalGet 0))
 unfolding ins_of
 shaped_get = lit< tt
 
-pub shaped_choice : (func : Func) (yes' no' : Body) → func.ty ≡ 0 → func.locals ≡ (2, V.I32) ∷ (1, V.I64) ∷ [] → func.body.code ≡ LocalGet 0 ∷ If B.Empty yes' no' ∷ [] → yes'.code ≡ Nop ∷ [] → IsShapedCode (code_of no'.code) → IsShapedFunc func
-shaped_choice func yes' no' ty locals code first second =
+pub shaped_choice : (func : Func) (choice' : Choice) (yes' no' : Body) → func.ty ≡ 0 → func.locals ≡ (2, V.I32) ∷ (1, V.I64) ∷ [] → choice' ≡ record { ty = B.Empty; yes = yes'; no = no' } → func.body.code ≡ LocalGet 0 ∷ If choice' ∷ [] → yes'.code ≡ Nop ∷ [] → IsShapedCode (code_of no'.code) → IsShapedFunc func
+shaped_choice func choice' yes' no' ty locals made code first second =
     let Q : List Instr → Type 0 = λ is. IsShapedCode (code_of is) in
-    let choice = subst IsShapedIns (sym (ins_of-If B.Empty yes' no')) (tt, shaped_nop yes'.code first, second) in
+    let choice = subst IsShapedIns (sym (ap (λ c. ins_of (If c)) made ∙ ins_of-If (record { ty = B.Empty; yes = yes'; no = no' }))) (tt, shaped_nop yes'.code first, second) in
     record {
       ty = rw ty (lit< tt);
       merges = ap merged locals ∙ sym locals;

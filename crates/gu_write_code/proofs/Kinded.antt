@@ -5,7 +5,7 @@ use Rattle.gu_syntax.specs.declared.instr.Instr.TheVariants as I
 use Rattle.gu_write_code.specs.Kinds.{Kind, kind_of}
 use Rattle.gu_write_code.specs.Kinds as kinds
 
-pub not_control : (i : Instr) → i ≢ I.Unreachable → i ≢ I.Nop → ((x : ℕ) → i ≢ I.Throw x) → i ≢ I.ThrowRef → ((x : ℕ) → i ≢ I.Br x) → ((x : ℕ) → i ≢ I.BrIf x) → i ≢ I.Return → i ≢ I.Drop → i ≢ I.Select → ((x : ℕ) → i ≢ I.BrOnNull x) → ((x : ℕ) → i ≢ I.BrOnNonNull x) → ((x : ℕ) (y : _) (z : _) → i ≢ I.BrOnCast x y z) → ((x : ℕ) (y : _) (z : _) → i ≢ I.BrOnCastFail x y z) → kind_of i ≢ kinds.control
+pub not_control : (i : Instr) → i ≢ I.Unreachable → i ≢ I.Nop → ((x : ℕ) → i ≢ I.Throw x) → i ≢ I.ThrowRef → ((x : ℕ) → i ≢ I.Br x) → ((x : ℕ) → i ≢ I.BrIf x) → i ≢ I.Return → i ≢ I.Drop → i ≢ I.Select → ((x : ℕ) → i ≢ I.BrOnNull x) → ((x : ℕ) → i ≢ I.BrOnNonNull x) → ((x : _) → i ≢ I.BrOnCast x) → ((x : _) → i ≢ I.BrOnCastFail x) → kind_of i ≢ kinds.control
 not_control I.Unreachable h0 h1 h2 h3 h4 h5 h6 h7 h8 h9 h10 h11 h12 e = absurd (h0 refl)
 not_control I.Nop h0 h1 h2 h3 h4 h5 h6 h7 h8 h9 h10 h11 h12 e = absurd (h1 refl)
 not_control (I.Throw x) h0 h1 h2 h3 h4 h5 h6 h7 h8 h9 h10 h11 h12 e = absurd (h2 x refl)
@@ -17,8 +17,8 @@ not_control I.Drop h0 h1 h2 h3 h4 h5 h6 h7 h8 h9 h10 h11 h12 e = absurd (h7 refl
 not_control I.Select h0 h1 h2 h3 h4 h5 h6 h7 h8 h9 h10 h11 h12 e = absurd (h8 refl)
 not_control (I.BrOnNull x) h0 h1 h2 h3 h4 h5 h6 h7 h8 h9 h10 h11 h12 e = absurd (h9 x refl)
 not_control (I.BrOnNonNull x) h0 h1 h2 h3 h4 h5 h6 h7 h8 h9 h10 h11 h12 e = absurd (h10 x refl)
-not_control (I.BrOnCast x y z) h0 h1 h2 h3 h4 h5 h6 h7 h8 h9 h10 h11 h12 e = absurd (h11 x y z refl)
-not_control (I.BrOnCastFail x y z) h0 h1 h2 h3 h4 h5 h6 h7 h8 h9 h10 h11 h12 e = absurd (h12 x y z refl)
+not_control (I.BrOnCast x) h0 h1 h2 h3 h4 h5 h6 h7 h8 h9 h10 h11 h12 e = absurd (h11 x refl)
+not_control (I.BrOnCastFail x) h0 h1 h2 h3 h4 h5 h6 h7 h8 h9 h10 h11 h12 e = absurd (h12 x refl)
 not_control i h0 h1 h2 h3 h4 h5 h6 h7 h8 h9 h10 h11 h12 e = cc
 
 pub not_call : (i : Instr) → ((x : ℕ) → i ≢ I.Call x) → ((x : ℕ) (y : ℕ) → i ≢ I.CallIndirect x y) → ((x : ℕ) → i ≢ I.ReturnCall x) → ((x : ℕ) (y : ℕ) → i ≢ I.ReturnCallIndirect x y) → ((x : ℕ) → i ≢ I.CallRef x) → ((x : ℕ) → i ≢ I.ReturnCallRef x) → kind_of i ≢ kinds.call
@@ -125,7 +125,7 @@ not_bulk (I.TableFill x) h0 h1 h2 h3 h4 h5 h6 h7 h8 h9 e = absurd (h9 x refl)
 not_bulk i h0 h1 h2 h3 h4 h5 h6 h7 h8 h9 e = cc
 
 -- an instruction that holds a list is one of two
-pub listed_is_known : (i : Instr) → kind_of i ≡ kinds.listed → ((x : _) (y : ℕ) → i ≢ I.BrTable x y) → ((x : _) → i ≢ I.SelectOf x) → ⊥
-listed_is_known (I.BrTable labels last) e b s = b labels last refl
+pub listed_is_known : (i : Instr) → kind_of i ≡ kinds.listed → ((x : _) → i ≢ I.BrTable x) → ((x : _) → i ≢ I.SelectOf x) → ⊥
+listed_is_known (I.BrTable table) e b s = b table refl
 listed_is_known (I.SelectOf types) e b s = s types refl
 listed_is_known i e b s = cc

@@ -19,7 +19,7 @@ immediates_text (N.Memory arg) = encode_mem_arg arg
 immediates_text (N.Narrow value) = least_signed value
 immediates_text (N.Wide value) = least_signed value
 immediates_text (N.Heap heap) = encode_heap heap
-immediates_text (N.Cast label of to) = encode_cast (record { label = label; of = of; to = to })
+immediates_text (N.Cast branch) = encode_cast branch
 
 -- a code, or a prefix and a number, and what stands behind
 abbrev pub layout_text : Layout → List ℕ

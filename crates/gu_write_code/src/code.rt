@@ -1,8 +1,7 @@
 //! Expressions (core specification 3.0, 5.4 Instructions).
 ghost use Rattle.std.specs.Prelude.{◌≡◌, ◌++◌, ◌∷◌, OnOk, IfErr};
 ghost use Rattle.gu_bytes.specs.Numbers.{least_unsigned};
-ghost use Rattle.std.specs.List.{AllByRecursion};
-ghost use Rattle.gu_syntax.specs.Code.{code_of, ins_of, try_table};
+ghost use Rattle.gu_syntax.specs.Code.{code_of, ins_of, choice, try_table};
 ghost use Rattle.gu_syntax.specs.Encoding.{encode_block_type, encode_catch, encode_leaf, encode_ins, encode_until, encode_body};
 ghost use Rattle.gu_syntax.specs.Shape.{IsShapedLeaf, IsShapedCatch, IsShapedIns, IsShapedCode, IsShapedBody};
 ghost use Rattle.gu_write_parts.specs.Limit.{BlamesEnd};
@@ -11,7 +10,7 @@ ghost use Rattle.gu_write_code.specs.Layouts.{block_text};
 use crate::layout::put_layout;
 use crate::tables::layout_of;
 use gu_bytes::{put_s33, put_u32};
-use gu_syntax::{BlockType, Body, Catch, Instr};
+use gu_syntax::{BlockType, Body, BranchTable, Catch, Choice, Guarded, Instr, Structured};
 use gu_types::ValType;
 use gu_write_parts::{
     Form, IndexForm, LIMIT, ValTypeForm, WriteErr, put_byte, put_val, put_vector,
@@ -53,7 +52,7 @@ fn put_until(alloc: Global, out: &mut Vec<u8>, end: u8, instrs: &[Instr]) -> Res
     Ok(())
 }
 
-/// Appends an instruction; an empty second branch is left out (5.4.1 Control Instructions).
+/// Appends an instruction (5.4 Instructions).
 #[cycle(code)]
 #[tactic(auto, using(gu_syntax::proofs::Shapes::shapes))]
 fn put_instr(alloc: Global, out: &mut Vec<u8>, instr: &Instr) -> Result<(), WriteErr>
@@ -62,20 +61,33 @@ fn put_instr(alloc: Global, out: &mut Vec<u8>, instr: &Instr) -> Result<(), Writ
     ensures too_long { IfErr result (BlamesEnd out.old.items (encode_ins (ins_of instr.now))) }
 {
     match instr {
-        Instr::Block(ty, body) => put_block(alloc, out, 0x02, *ty, END, body),
-        Instr::Loop(ty, body) => put_block(alloc, out, 0x03, *ty, END, body),
-        Instr::If(ty, yes, no) => {
-            if no.code.as_slice().is_empty() {
-                return put_block(alloc, out, 0x04, *ty, END, yes);
-            }
-            put_block(alloc, out, 0x04, *ty, ELSE, yes)?;
-            put_until(alloc, out, END, no.code.as_slice())
+        Instr::Block(boxed) => {
+            let Structured { ty, body } = boxed.get();
+            put_block(alloc, out, 0x02, *ty, END, body)
         }
-        Instr::TryTable(ty, catches, body) => {
-            put_try_table(alloc, out, *ty, catches.as_slice(), body)
+        Instr::Loop(boxed) => {
+            let Structured { ty, body } = boxed.get();
+            put_block(alloc, out, 0x03, *ty, END, body)
         }
+        Instr::If(boxed) => put_choice(alloc, out, boxed.get()),
+        Instr::TryTable(boxed) => put_guarded(alloc, out, boxed.get()),
         _ => put_leaf(alloc, out, instr),
     }
+}
+
+/// Appends an `if`; an empty second branch is left out (5.4.1 Control Instructions).
+#[cycle(code)]
+fn put_choice(alloc: Global, out: &mut Vec<u8>, whole: &Choice) -> Result<(), WriteErr>
+    requires { IsShapedIns (choice whole.now.ty (code_of whole.now.yes.code) (code_of whole.now.no.code)) }
+    ensures ok { OnOk result (out.new.items ≡ out.old.items ++ encode_ins (choice whole.now.ty (code_of whole.now.yes.code) (code_of whole.now.no.code))) }
+    ensures too_long { IfErr result (BlamesEnd out.old.items (encode_ins (choice whole.now.ty (code_of whole.now.yes.code) (code_of whole.now.no.code)))) }
+{
+    let Choice { ty, yes, no } = whole;
+    if no.code.as_slice().is_empty() {
+        return put_block(alloc, out, 0x04, *ty, END, yes);
+    }
+    put_block(alloc, out, 0x04, *ty, ELSE, yes)?;
+    put_until(alloc, out, END, no.code.as_slice())
 }
 
 /// Appends the code of a construct, its type, and its first instructions up to a byte that ends them.
@@ -96,22 +108,16 @@ fn put_block(
     put_until(alloc, out, end, body.code.as_slice())
 }
 
-/// Appends a `try_table`.
+/// Appends a `try_table` (5.4.1 Control Instructions).
 #[cycle(code)]
-fn put_try_table(
-    alloc: Global,
-    out: &mut Vec<u8>,
-    ty: BlockType,
-    catches: &[Catch],
-    body: &Body,
-) -> Result<(), WriteErr>
-    requires catches { AllByRecursion IsShapedCatch catches.now }
-    requires body { IsShapedCode (code_of body.now.code) }
-    ensures ok { OnOk result (out.new.items ≡ out.old.items ++ encode_ins (try_table ty catches.now (code_of body.now.code))) }
-    ensures too_long { IfErr result (BlamesEnd out.old.items (encode_ins (try_table ty catches.now (code_of body.now.code)))) }
+fn put_guarded(alloc: Global, out: &mut Vec<u8>, whole: &Guarded) -> Result<(), WriteErr>
+    requires { IsShapedIns (try_table whole.now.ty whole.now.catches (code_of whole.now.body.code)) }
+    ensures ok { OnOk result (out.new.items ≡ out.old.items ++ encode_ins (try_table whole.now.ty whole.now.catches (code_of whole.now.body.code))) }
+    ensures too_long { IfErr result (BlamesEnd out.old.items (encode_ins (try_table whole.now.ty whole.now.catches (code_of whole.now.body.code)))) }
 {
-    put_opening(alloc, out, 0x1F, ty)?;
-    put_vector::<CatchForm, Catch>(alloc, out, catches)?;
+    let Guarded { ty, catches, body } = whole;
+    put_opening(alloc, out, 0x1F, *ty)?;
+    put_vector::<CatchForm, Catch>(alloc, out, catches.as_slice())?;
     put_until(alloc, out, END, body.code.as_slice())
 }
 
@@ -190,7 +196,8 @@ fn put_leaf(alloc: Global, out: &mut Vec<u8>, instr: &Instr) -> Result<(), Write
         return Ok(());
     }
     match instr {
-        Instr::BrTable(labels, last) => {
+        Instr::BrTable(boxed) => {
+            let BranchTable { labels, last } = boxed.get();
             put_byte(out, 0x0E)?;
             put_vector::<IndexForm, u32>(alloc, out, labels.as_slice())?;
             put_u32(alloc, out, *last)?;
@@ -198,7 +205,7 @@ fn put_leaf(alloc: Global, out: &mut Vec<u8>, instr: &Instr) -> Result<(), Write
         }
         Instr::SelectOf(types) => {
             put_byte(out, 0x1C)?;
-            put_vector::<ValTypeForm, ValType>(alloc, out, types.as_slice())
+            put_vector::<ValTypeForm, ValType>(alloc, out, types.get().as_slice())
         }
         _ => unreachable!(),
     }

@@ -4,8 +4,8 @@ ghost use Rattle.gu_syntax.specs.Encoding.{encode_mem_arg, encode_cast};
 ghost use Rattle.gu_write_code.specs.Layouts.{immediates_text, layout_text};
 
 use gu_bytes::{put_s32, put_s64, put_u32};
-use gu_syntax::MemArg;
-use gu_types::{HeapType, RefType};
+use gu_syntax::{CastBranch, MemArg};
+use gu_types::HeapType;
 use gu_write_parts::{put_byte, put_heap, put_size};
 use std::alloc::{AllocError, Global};
 
@@ -27,7 +27,7 @@ pub(crate) enum Immediates {
     /// A heap type.
     Heap(HeapType),
     /// The label and the two types of a branch on a cast.
-    Cast(u32, RefType, RefType),
+    Cast(CastBranch),
 }
 
 /// A code and what stands behind it.
@@ -74,7 +74,7 @@ fn put_immediates(
         Immediates::Narrow(value) => put_s32(alloc, out, value),
         Immediates::Wide(value) => put_s64(alloc, out, value),
         Immediates::Heap(heap) => put_heap(alloc, out, heap),
-        Immediates::Cast(label, of, to) => put_cast(alloc, out, label, of, to),
+        Immediates::Cast(branch) => put_cast(alloc, out, branch),
     }
 }
 
@@ -94,15 +94,10 @@ fn put_mem_arg(alloc: Global, out: &mut Vec<u8>, arg: MemArg) -> Result<(), Allo
 
 /// Appends the flags, the label and the two heap types of a branch on a cast (5.4.2 Reference
 /// Instructions).
-fn put_cast(
-    alloc: Global,
-    out: &mut Vec<u8>,
-    label: u32,
-    of: RefType,
-    to: RefType,
-) -> Result<(), AllocError>
-    ensures { OnOk result (out.new.items ≡ out.old.items ++ encode_cast (record { label = label; of = of; to = to })) }
+fn put_cast(alloc: Global, out: &mut Vec<u8>, branch: CastBranch) -> Result<(), AllocError>
+    ensures { OnOk result (out.new.items ≡ out.old.items ++ encode_cast branch) }
 {
+    let CastBranch { label, of, to } = branch;
     put_byte(out, u8::from(of.null) + 2 * u8::from(to.null))?;
     put_u32(alloc, out, label)?;
     put_heap(alloc, out, of.heap)?;

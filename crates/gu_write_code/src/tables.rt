@@ -64,8 +64,8 @@ fn control(instr: &Instr) -> Option<Layout>
         Instr::Select => Some(Plain(0x1B, Nothing)),
         Instr::BrOnNull(label) => Some(Plain(0xD5, Index(*label))),
         Instr::BrOnNonNull(label) => Some(Plain(0xD6, Index(*label))),
-        Instr::BrOnCast(label, of, to) => Some(Prefixed(0xFB, 24, Cast(*label, *of, *to))),
-        Instr::BrOnCastFail(label, of, to) => Some(Prefixed(0xFB, 25, Cast(*label, *of, *to))),
+        Instr::BrOnCast(branch) => Some(Prefixed(0xFB, 24, Cast(*branch.get()))),
+        Instr::BrOnCastFail(branch) => Some(Prefixed(0xFB, 25, Cast(*branch.get()))),
         _ => None,
     }
 }

@@ -3,7 +3,8 @@ ghost use Rattle.gu_syntax.specs.Shape.{IsShapedCode, IsShapedFunc};
 ghost use Rattle.gu_syntax.specs.Code.{code_of};
 
 use super::*;
-use gu_syntax::{BlockType, Body, Func, Instr};
+use gu_boxed::Boxed;
+use gu_syntax::{BlockType, Body, Choice, Func, Instr};
 use gu_types::{List, ValType};
 use std::alloc::{AllocError, Global};
 use std::test::Fail;
@@ -39,11 +40,9 @@ fn choice(alloc: Global, no: List<Instr>) -> Result<Func, AllocError>
     let locals = two(alloc, (2, ValType::I32), (1, ValType::I64))?;
     let yes = body(one(alloc, Instr::Nop)?);
     let no = body(no);
-    let code = two(
-        alloc,
-        Instr::LocalGet(0),
-        Instr::If(BlockType::Empty, yes, no),
-    )?;
+    let ty = BlockType::Empty;
+    let choice = Boxed::new(alloc, Choice { ty, yes, no })?;
+    let code = two(alloc, Instr::LocalGet(0), Instr::If(choice))?;
     let whole = body(code);
     Ok(Func {
         ty: 0,

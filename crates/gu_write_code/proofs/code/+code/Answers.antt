@@ -7,7 +7,7 @@ use Rattle.gu_syntax.proofs.Shapes.{ins_of-leaf}
 use Rattle.gu_syntax.specs.Encoding.{encode_ins, encode_until}
 use Rattle.gu_syntax.specs.Shape.{IsShapedIns}
 use Rattle.gu_write_parts.specs.Limit.{BlamesEnd}
-use Rattle.gu_write_code.proofs.Codes.{short_if, long_if, shaped_at, instrs_past, instr_past}
+use Rattle.gu_write_code.proofs.Codes.{choice_short, choice_long, shaped_at, instrs_past, instr_past}
 use Rattle.gu_write_code.proofs.code.+code.Goals as goal
 
 pub put_instr-put_leaf-requires : goal.put_instr-put_leaf-requires
@@ -35,27 +35,27 @@ put_until-returns-in_err-put_instr-clause-too_long t c =
 pub put_until-returns-then-len-gt-LIMIT-clause-too_long : goal.put_until-returns-then-len-gt-LIMIT-clause-too_long
 put_until-returns-then-len-gt-LIMIT-clause-too_long t c e = instrs_past 268435456 c.args.end c.args.instrs.now c.instrs.instr-index c.instr-item.result c.instr-item.result c.args.out.now.items _ c.instrs.out.items c.put_instr.new.out.items (omega arith) c.instr-item.is c.instrs.invariant c.in_ok-put_instr.ensures.ok (first_of (omega arith, grind (arith, common_steps), search rules))
 
-pub put_instr-returns-then-is_empty-clause-ok : goal.put_instr-returns-then-is_empty-clause-ok
-put_instr-returns-then-is_empty-clause-ok t c =
-    let P : List ℕ → Type 0 = λ text. OnOk c.put_block-then-is_empty.result (c.put_block-then-is_empty.new.out.items ≡ c.args.out.now.items ++ text) in
-    subst P (sym (short_if c.args.instr.now c.in-If.ty c.in-If.yes c.in-If.no c.in-If.is (first_of (omega arith, grind (arith, common_steps), search rules)))) c.put_block-then-is_empty.ensures.ok
+pub put_choice-returns-then-is_empty-clause-ok : goal.put_choice-returns-then-is_empty-clause-ok
+put_choice-returns-then-is_empty-clause-ok t c =
+    let P : List ℕ → Type 0 = λ text. OnOk c.put_block.result (c.put_block.new.out.items ≡ c.args.out.now.items ++ text) in
+    subst P (sym (choice_short c.args.whole.now.ty (code_of c.args.whole.now.yes.code) c.args.whole.now.no.code (first_of (omega arith, grind (arith, common_steps), search rules)))) c.put_block.ensures.ok
 
-pub put_instr-returns-then-is_empty-clause-too_long : goal.put_instr-returns-then-is_empty-clause-too_long
-put_instr-returns-then-is_empty-clause-too_long t c =
-    let P : List ℕ → Type 0 = λ text. IfErr c.put_block-then-is_empty.result (BlamesEnd c.args.out.now.items text) in
-    subst P (sym (short_if c.args.instr.now c.in-If.ty c.in-If.yes c.in-If.no c.in-If.is (first_of (omega arith, grind (arith, common_steps), search rules)))) c.put_block-then-is_empty.ensures.too_long
+pub put_choice-returns-then-is_empty-clause-too_long : goal.put_choice-returns-then-is_empty-clause-too_long
+put_choice-returns-then-is_empty-clause-too_long t c =
+    let P : List ℕ → Type 0 = λ text. IfErr c.put_block.result (BlamesEnd c.args.out.now.items text) in
+    subst P (sym (choice_short c.args.whole.now.ty (code_of c.args.whole.now.yes.code) c.args.whole.now.no.code (first_of (omega arith, grind (arith, common_steps), search rules)))) c.put_block.ensures.too_long
 
-pub put_instr-returns-in_err-put_block-in-If-clause-too_long : goal.put_instr-returns-in_err-put_block-in-If-clause-too_long
-put_instr-returns-in_err-put_block-in-If-clause-too_long t c =
+pub put_choice-returns-in_err-put_block-clause-too_long : goal.put_choice-returns-in_err-put_block-clause-too_long
+put_choice-returns-in_err-put_block-clause-too_long t c =
     let P : List ℕ → Type 0 = λ text. IfErr c.from_residual.result (BlamesEnd c.args.out.now.items text) in
-    subst P (sym (long_if c.args.instr.now c.in-If.ty c.in-If.yes c.in-If.no c.in-If.is (first_of (omega arith, grind (arith, common_steps), search rules)))) (first_of (grind (arith, common_steps), search rules))
+    subst P (sym (choice_long c.args.whole.now.ty (code_of c.args.whole.now.yes.code) c.args.whole.now.no.code (first_of (omega arith, grind (arith, common_steps), search rules)))) (first_of (grind (arith, common_steps), search rules))
 
-pub put_instr-returns-in_ok-put_block-in-If-clause-ok : goal.put_instr-returns-in_ok-put_block-in-If-clause-ok
-put_instr-returns-in_ok-put_block-in-If-clause-ok t c =
+pub put_choice-returns-clause-ok : goal.put_choice-returns-clause-ok
+put_choice-returns-clause-ok t c =
     let P : List ℕ → Type 0 = λ text. OnOk c.put_until.result (c.put_until.new.out.items ≡ c.args.out.now.items ++ text) in
-    subst P (sym (long_if c.args.instr.now c.in-If.ty c.in-If.yes c.in-If.no c.in-If.is (first_of (omega arith, grind (arith, common_steps), search rules)))) (first_of (grind (arith, common_steps), search rules))
+    subst P (sym (choice_long c.args.whole.now.ty (code_of c.args.whole.now.yes.code) c.args.whole.now.no.code (first_of (omega arith, grind (arith, common_steps), search rules)))) (first_of (grind (arith, common_steps), search rules))
 
-pub put_instr-returns-in_ok-put_block-in-If-clause-too_long : goal.put_instr-returns-in_ok-put_block-in-If-clause-too_long
-put_instr-returns-in_ok-put_block-in-If-clause-too_long t c =
+pub put_choice-returns-clause-too_long : goal.put_choice-returns-clause-too_long
+put_choice-returns-clause-too_long t c =
     let P : List ℕ → Type 0 = λ text. IfErr c.put_until.result (BlamesEnd c.args.out.now.items text) in
-    subst P (sym (long_if c.args.instr.now c.in-If.ty c.in-If.yes c.in-If.no c.in-If.is (first_of (omega arith, grind (arith, common_steps), search rules)))) (first_of (grind (arith, common_steps), search rules))
+    subst P (sym (choice_long c.args.whole.now.ty (code_of c.args.whole.now.yes.code) c.args.whole.now.no.code (first_of (omega arith, grind (arith, common_steps), search rules)))) (first_of (grind (arith, common_steps), search rules))
