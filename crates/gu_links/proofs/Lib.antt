@@ -10,6 +10,16 @@ pub mod Monotone
 pub mod Rounds
 pub mod Climbing
 pub mod Reached
+pub mod Once
+pub mod Tables
+pub mod Walks
+pub mod Zips
+pub mod Applying
+pub mod Putting
+pub mod Below
+pub mod Reaching
+pub mod Owning
+pub mod Firsts
 pub mod Knowing
 pub mod Finding
 pub mod Closing

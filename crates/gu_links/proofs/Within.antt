@@ -18,7 +18,7 @@ use Rattle.gu_links.specs.Cells.{comp_slots, count_of, slot_cell, param_cell, ou
 use Rattle.gu_links.specs.Over.{has_slot}
 
 -- a part of a sum over a run of numbers, with one more of its terms
-run_part : (g : ℕ → ℕ) (first count i : ℕ) → i < count → sum_by g (run first i) + g (first + i) ≤ sum_by g (run first count)
+pub run_part : (g : ℕ → ℕ) (first count i : ℕ) → i < count → sum_by g (run first i) + g (first + i) ≤ sum_by g (run first count)
 run_part g first zero i lt = absurd (omega arith)
 run_part g first (suc count) zero lt =
     let e = sum_by-cons g first (run (suc first) count) in let z : g (first + 0) ≡ g first = ap g (omega arith) in omega arith
@@ -55,7 +55,7 @@ unfolding out_cell
 out_within f g j lt h = let part = func_part f g lt in omega arith
 
 -- whether an index is the least of its type, by the least index that denotes the same type
-is_least_by : (list : TypeList) (i r : ℕ) → SameType list i list r → ((j : ℕ) → SameType list i list j → r ≤ j) → is_least list i ≡ nat_eq r i
+pub is_least_by : (list : TypeList) (i r : ℕ) → SameType list i list r → ((j : ℕ) → SameType list i list j → r ≤ j) → is_least list i ≡ nat_eq r i
 is_least_by list i r same least = ap (λ k. nat_eq k i) (sym (least_is list i r same least))
 
 pub own_slots_least : (list : TypeList) (i r n : ℕ) (sub : SubType) → SameType list i list r → ((j : ℕ) → SameType list i list j → r ≤ j) → r ≡ i → slice_get (types_of list) i ≡ Some sub → n ≡ comp_slots sub.comp → n ≡ own_slots list i
@@ -70,7 +70,7 @@ run_more : (first count : ℕ) → run first (suc count) ≡ run first count ++ 
 run_more first zero = ap (λ n. n ∷ []) (omega arith)
 run_more first (suc count) = ap (λ ns. first ∷ ns) (run_more (suc first) count ∙ ap (λ n. run (suc first) count ++ n ∷ []) (omega arith))
 
-sum_more : (g : ℕ → ℕ) (count : ℕ) → sum_by g (run 0 (count + 1)) ≡ sum_by g (run 0 count) + g count
+pub sum_more : (g : ℕ → ℕ) (count : ℕ) → sum_by g (run 0 (count + 1)) ≡ sum_by g (run 0 count) + g count
 sum_more g count =
     let one : count + 1 ≡ suc count = omega arith in
     ap (λ n. sum_by g (run 0 n)) one ∙ (ap (sum_by g) (run_more 0 count) ∙ (sum_by_push g (run 0 count) (0 + count) ∙ ap (λ n. sum_by g (run 0 count) + g n) (omega arith)))
