@@ -111,7 +111,7 @@ unfolding slot_cell
 slot_is f ty slot r same least = ap (λ k. slots_before f k + slot) (least_is f.types ty r same least)
 
 -- the least index of a type is its own least
-least_again : (list : TypeList) (ty : ℕ) → least_of list (least_of list ty) ≡ least_of list ty
+pub least_again : (list : TypeList) (ty : ℕ) → least_of list (least_of list ty) ≡ least_of list ty
 least_again list ty =
     sym (least_is list (least_of list ty) (least_of list ty) (same_self list (least_of list ty)) (λ j same. least_least list ty j (same_through list ty (least_of list ty) j (least_same list ty) same)))
 

@@ -30,6 +30,7 @@ pub record ReadsResult (f : Facts) (links : List Link) (ty cell up : ℕ) : Type
   pub of : ℕ
   pub place : ℕ
   pub far : ℕ
+  pub in_range : of < length f.funcs
   pub named : list_any (names of) links ≡ true
   pub has : place < results_of f of
   pub far_is : distance f.types (H.Idx ty) (H.Idx (slice_index f.funcs of)) ≡ Some far

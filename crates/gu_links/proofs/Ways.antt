@@ -1,0 +1,1 @@
+-- By which ways links read cells.
