@@ -175,18 +175,37 @@ module _ (f : Facts) (cells : Cells) (are : CellsAre f cells) where
       let o = owned_by f cells are c past long in
       typed_here c o.function g (nat_lt c (slice_index cells.results.items o.function)) o.below o.within o.has o.at refl (sym (ap (λ (h : ℕ). result_of cells h c) o.is) ∙ e)
 
+  -- who has a cell behind those of slots
+  owner_result : (c h : ℕ) → cells.slot_cells ≤ c → c < length cells.owners.items → h ≡ get_or cells.owners.items c 0 → result_owner cells c ≡ result_of cells h c
+  owner_result c h past long own =
+      ap (λ (b : Bool). cond (b || nat_le (length cells.owners.items) c) None (result_of cells (slice_index cells.owners.items c) c)) (le-ltb c cells.slot_cells past)
+      ∙ ap (λ (b : Bool). cond b None (result_of cells (slice_index cells.owners.items c) c)) (lt-leb (length cells.owners.items) c long)
+      ∙ ap (λ (k : ℕ). result_of cells k c) (sym own)
+
+  pub owner_none : (c h : ℕ) → cells.slot_cells ≤ c → c < length cells.owners.items → h ≡ get_or cells.owners.items c 0 → c < slice_index cells.results.items h → result_owner cells c ≡ None
+  owner_none c h past long own lt = owner_result c h past long own ∙ cond-true (nat_lt c (slice_index cells.results.items h)) None (Some h) (lt-ltb c (slice_index cells.results.items h) lt)
+
+  pub owner_some : (c h : ℕ) → cells.slot_cells ≤ c → c < length cells.owners.items → h ≡ get_or cells.owners.items c 0 → slice_index cells.results.items h ≤ c → result_owner cells c ≡ Some h
+  owner_some c h past long own le = owner_result c h past long own ∙ cond-false (nat_lt c (slice_index cells.results.items h)) None (Some h) (le-ltb c (slice_index cells.results.items h) le)
+
   pub owner_typed : (c g : ℕ) → result_owner cells c ≡ Some g → IsTyped f g
   owner_typed c g e = ⊎_elim
       (λ (low : c < cells.slot_cells). absurd (let bad : None ≡ Some g = sym (slot_owner f cells are c low) ∙ e in cc))
       (λ (past : cells.slot_cells ≤ c). ⊎_elim
-      (λ (long : c < length cells.owners.items). typed_past c g past long
-      (sym (ap (λ (b : Bool). cond (b || nat_le (length cells.owners.items) c) None (result_of cells (slice_index cells.owners.items c) c)) (le-ltb c cells.slot_cells past)
-      ∙ ap (λ (b : Bool). cond b None (result_of cells (slice_index cells.owners.items c) c)) (lt-leb (length cells.owners.items) c long)) ∙ e))
+      (λ (long : c < length cells.owners.items). typed_past c g past long (sym (owner_result c (get_or cells.owners.items c 0) past long refl) ∙ e))
       (λ (end : length cells.owners.items ≤ c). absurd (let bad : None ≡ Some g =
       sym (ap (λ (b : Bool). cond (b || nat_le (length cells.owners.items) c) None (result_of cells (slice_index cells.owners.items c) c)) (le-ltb c cells.slot_cells past)
       ∙ ap (λ (b : Bool). cond b None (result_of cells (slice_index cells.owners.items c) c)) (le-leb (length cells.owners.items) c end)) ∙ e in cc))
       (cases_lt c (length cells.owners.items)))
       (cases_lt c cells.slot_cells)
+
+  -- the results of a deep type's functions have the place of the type
+  pub deep_place : (c g own r : ℕ) → result_owner cells c ≡ Some g → own ≡ slice_index f.funcs g → depth (types_of f.types) own ≡ 63 → r ≡ least_of f.types own → P.Type r ≡ fixed_place f cells c
+  deep_place c g own r e is deep least =
+      sym (ap (λ (o : Option ℕ). owner_place f c o) e
+      ∙ ap (λ (k : ℕ). result_place f c k) (sym is)
+      ∙ cond-true (nat_eq (depth (types_of f.types) own) 63) (P.Type (least_of f.types own)) (P.Cell c) (eq-eqb (depth (types_of f.types) own) 63 deep)
+      ∙ ap (λ (k : ℕ). P.Type k) (sym least))
 
   result_place_within : (count c ty : ℕ) (b : Bool) → c < count → ty < length (types_of f.types) → IsPlace f count (cond b (P.Type (least_of f.types ty)) (P.Cell c))
   result_place_within count c ty true lt h = least_in_range f.types (H.Idx ty) h
