@@ -28,7 +28,8 @@ use Rattle.gu_links.specs.declared.link.Link.TheVariants as L
 use Rattle.gu_links.specs.declared.readers.Place.{Place}
 use Rattle.gu_links.specs.declared.readers.Place.TheVariants as P
 use Rattle.gu_links.specs.Listed.{result_of, result_owner, result_place, owner_place, fixed_place, slot_place, type_place, IsPlace}
-use Rattle.gu_links.proofs.Within.{out_within, least_again}
+use Rattle.gu_links.proofs.Within.{slot_within, slot_least_within, out_within, least_again}
+use Rattle.gu_links.proofs.Tables.{read}
 use Rattle.gu_links.proofs.Owning.{located, least_owner, slot_before}
 use Rattle.gu_links.proofs.Sized.{least_slots}
 
@@ -296,3 +297,20 @@ module _ (f : Facts) (cells : Cells) (are : CellsAre f cells) where
     result_far own steps e s =
         let n = way_steps (nat_eq (depth (types_of f.types) (slice_index f.funcs r.of)) 63) steps r.way (s ∙ ap (λ (k : ℕ). cond (nat_eq (depth (types_of f.types) k) 63) up (up - 1)) e) in
         ap (λ (k : ℕ). distance f.types (H.Idx ty) (H.Idx k)) e ∙ r.far_is ∙ ap (λ (k : ℕ). Some k) (sym n)
+
+-- what is read of the table of slots
+module _ (f : Facts) (cells : Cells) (are : CellsAre f cells) where
+  pub table_first : (t v : ℕ) → t < length (types_of f.types) → v ≡ get_or cells.slots.items t v → v ≡ slots_before f t
+  table_first t v lt e = read cells.slots.items t v (slots_before f t) (subst (λ (n : ℕ). t < n) (sym are.slots_long) lt) e (are.slots_are t lt)
+
+  pub above_within : (t v s : ℕ) → t < length (types_of f.types) → is_least f.types t ≡ true → s < slots_of f.types t → v ≡ get_or cells.slots.items t v → v + s < own_cells f
+  above_within t v s lt least has e =
+      let w = slot_within f t s lt least (lt-ltb s (slots_of f.types t) has) in
+      let a = slot_first f cells are t s least in
+      let b = table_first t v lt e in omega arith
+
+  pub slot_table : (ty own slot v : ℕ) → ty < length (types_of f.types) → own ≡ least_of f.types ty → v ≡ get_or cells.slots.items own v → v + slot ≡ slot_cell f ty slot
+  slot_table ty own slot v lt least e =
+      let n = least_in_range f.types (H.Idx ty) lt in
+      let own_lt : own < length (types_of f.types) = subst (λ (k : ℕ). k < length (types_of f.types)) (sym least) n in
+      ap (λ (k : ℕ). k + slot) (table_first own v own_lt e ∙ ap (slots_before f) least) ∙ least_first f cells are ty slot
