@@ -1,7 +1,7 @@
 -- Where the links are listed that read a cell.
 use Rattle.std.proofs.Common.{◌≡◌, ◌∙◌, ℕ, zero, suc, ◌+◌, ◌<◌, ◌≤◌, ◌-◌, ◌^◌, ◌||◌, Bool, true, false, cond, Option, Some, None, option_map, List, [], ◌∷◌, ◌++◌, length, get_or, refl, sym, ap, subst, ⊎_elim, arith}
 use Rattle.std.specs.Prelude.{All, Contains, IfSome, slice_get, slice_index, sum_by, nat_eq, nat_lt, nat_le}
-use Rattle.std.proofs.lemmas.Bool.{cond-true, cond-false, cases_Bool, cases_lt, eqb-true, eq-eqb, ltb-true, ltb-false, lt-ltb, le-ltb, lt-leb, le-leb}
+use Rattle.std.proofs.lemmas.Bool.{cond-true, cond-false, cases_Bool, cases_lt, eqb-true, eq-eqb, ne_eqb, ltb-true, ltb-false, lt-ltb, le-ltb, lt-leb, le-leb}
 use Rattle.std.proofs.lemmas.Option.{slice_get_past}
 use Rattle.gu_types.specs.declared.types.HeapType.TheVariants as H
 use Rattle.gu_types.specs.declared.types.TypeList.{TypeList}
@@ -314,3 +314,10 @@ module _ (f : Facts) (cells : Cells) (are : CellsAre f cells) where
       let n = least_in_range f.types (H.Idx ty) lt in
       let own_lt : own < length (types_of f.types) = subst (λ (k : ℕ). k < length (types_of f.types)) (sym least) n in
       ap (λ (k : ℕ). k + slot) (table_first own v own_lt e ∙ ap (slots_before f) least) ∙ least_first f cells are ty slot
+
+-- how many steps lead up from a function's type
+pub steps_deep : (d up steps : ℕ) → d ≡ 63 → steps ≡ up → steps ≡ cond (nat_eq d 63) up (up - 1)
+steps_deep d up steps deep e = e ∙ sym (cond-true (nat_eq d 63) up (up - 1) (eq-eqb d 63 deep))
+
+pub steps_other : (d up steps : ℕ) → (d ≡ 63 → ⊥) → steps ≡ up - 1 → steps ≡ cond (nat_eq d 63) up (up - 1)
+steps_other d up steps other e = e ∙ sym (cond-false (nat_eq d 63) up (up - 1) (ne_eqb d 63 other))
