@@ -25,4 +25,5 @@ pub mod Finding
 pub mod Closing
 pub mod Sized
 pub mod Listed
+pub mod Adding
 pub mod Ways

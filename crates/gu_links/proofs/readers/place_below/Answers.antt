@@ -6,5 +6,5 @@ use Rattle.gu_links.proofs.readers.place_below.Goals as goal
 
 pub returns-in-CallBy : goal.returns-in-CallBy
 returns-in-CallBy c =
-    ap (λ (k : ℕ). Some (P.Type k)) (least_is c.args.f.now.types c.in-CallBy.ty.now c.canon.result c.canon.ensures.same c.canon.ensures.least)
+    ap (λ (k : ℕ). Some (P.Type k)) (least_is c.args.f.now.types c.in-CallBy.ty c.canon.result c.canon.ensures.same c.canon.ensures.least)
     ∙ sym (ap (below_place c.args.f.now) c.in-CallBy.is)
