@@ -1,8 +1,12 @@
 -- By which ways links read cells, and that the links listed by these are the readers.
 use Rattle.std.proofs.Common.{◌≡◌, ◌∙◌, ℕ, ◌+◌, ◌<◌, ◌≤◌, true, Option, Some, None, List, [], ◌∷◌, length, get_or, refl, sym, ap, subst, ⊎_elim, inl, inr, arith}
 use Rattle.std.specs.Prelude.{All, Contains}
-use Rattle.std.proofs.lemmas.List.Elements.{All-nil, All-cons, All-contains}
+use Rattle.std.proofs.lemmas.List.Elements.{All-nil, All-cons, All-head, All-tail, All-contains}
+use Rattle.std.specs.List.{list_any}
+use Rattle.std.proofs.lemmas.Bool.{eqb-true}
+use Rattle.gu_rec.proofs.Order.{either}
 use Rattle.gu_contents.specs.declared.facts.Facts.{Facts}
+use Rattle.gu_contents.specs.Belongs.{IsFunc}
 use Rattle.gu_links.specs.declared.link.Link.{Link}
 use Rattle.gu_links.specs.declared.link.Link.TheVariants as L
 use Rattle.gu_links.specs.declared.index.Cells.{Cells}
@@ -10,6 +14,7 @@ use Rattle.gu_links.specs.declared.readers.Place.{Place}
 use Rattle.gu_links.specs.declared.readers.Readers.{Readers}
 use Rattle.gu_links.specs.Cells.{own_cells, slots_of}
 use Rattle.gu_links.specs.Solutions.{Fits, IsSystem}
+use Rattle.gu_links.specs.Over.{names}
 use Rattle.gu_links.specs.Kept.{has, fixed_reads}
 use Rattle.gu_links.specs.Known.{link_at}
 use Rattle.gu_links.specs.Ways.{ReadsSlot, ReadsResult, ReadsBelow, IsReadBy}
@@ -83,3 +88,18 @@ module _ (f : Facts) (longs : List ℕ) (count : ℕ) (links : List Link) (syste
         (λ (w : (up ≡ 0) × Contains (fixed_reads (link_at links k)) cell). record { place = fixed_place f cells cell; is = fixed w.0; has = (listed.at k lt).fixed cell w.1 })
         (λ (w : ReadsBelow f links cell up (link_at links k)). found_below k (link_at links k) (can_be_listed f longs count links system k (L.Callable 0) lt) (listed.at k lt) w)
         r
+
+-- a function that is named by links that fit is one of the facts
+named_by : (f : Facts) (longs : List ℕ) (count g : ℕ) (link : Link) → Fits f longs count link → names g link ≡ true → IsFunc f g
+named_by f longs count g (L.Callable h) fit e = subst (IsFunc f) (eqb-true h g e) fit
+named_by f longs count g _ fit e = absurd cc
+
+named_in : (f : Facts) (longs : List ℕ) (count g : ℕ) (links : List Link) → All (Fits f longs count) links → list_any (names g) links ≡ true → IsFunc f g
+named_in f longs count g [] fit e = absurd cc
+named_in f longs count g (link ∷ links) fit e = ⊎_elim
+    (λ (here : names g link ≡ true). named_by f longs count g link (All-head (Fits f longs count) link links fit) here)
+    (λ (there : list_any (names g) links ≡ true). named_in f longs count g links (All-tail (Fits f longs count) link links fit) there)
+    (either (names g link) (list_any (names g) links) e)
+
+pub named_fits : (f : Facts) (longs : List ℕ) (count : ℕ) (links : List Link) → IsSystem f longs count links → (g : ℕ) → list_any (names g) links ≡ true → IsFunc f g
+named_fits f longs count links system g e = named_in f longs count g links system.fit e
