@@ -1,12 +1,10 @@
 -- Links are listed one after another.
-use Rattle.std.proofs.Common.{◌≡◌, ◌∙◌, ℕ, zero, suc, ◌+◌, ◌<◌, ◌≤◌, ◌||◌, Bool, true, false, cond, Option, Some, None, List, [], ◌∷◌, ◌++◌, length, get_or, take, refl, sym, ap, subst, ⊎_elim, inl, inr, arith}
-use Rattle.std.specs.Prelude.{All, Contains, IfSome, nat_eq, replicate}
-use Rattle.std.specs.List.{list_any}
-use Rattle.std.proofs.lemmas.Bool.{cases_Bool, cases_lt, eqb-true, eq-eqb}
+use Rattle.std.proofs.Common.{◌≡◌, ◌∙◌, ℕ, ◌+◌, ◌<◌, ◌≤◌, ◌||◌, Bool, true, false, cond, Option, Some, None, List, [], ◌∷◌, ◌++◌, length, get_or, take, sym, ap, subst, ⊎_elim, arith}
+use Rattle.std.specs.Prelude.{All, Contains, IfSome, nat_eq}
+use Rattle.std.proofs.lemmas.Bool.{cases_lt, eqb-true, eq-eqb}
 use Rattle.std.proofs.lemmas.List.Elements.{All-nil, All-append, All-cons, All-contains, Contains-get_or}
 use Rattle.std.proofs.lemmas.List.Folds.{list_any-append, list_any_at}
 use Rattle.std.proofs.lemmas.Map.Views.{Contains-from_any}
-use Rattle.gu_types.specs.Depth.{types_of}
 use Rattle.gu_contents.specs.declared.facts.Facts.{Facts}
 use Rattle.gu_links.specs.declared.link.Link.{Link}
 use Rattle.gu_links.specs.declared.index.Cells.{Cells}
@@ -15,7 +13,7 @@ use Rattle.gu_links.specs.declared.readers.Place.TheVariants as P
 use Rattle.gu_links.specs.declared.readers.Readers.{Readers}
 use Rattle.gu_links.specs.Kept.{has, fixed_reads, fixed_once, once_onto}
 use Rattle.gu_links.specs.Known.{link_at}
-use Rattle.gu_links.specs.Listed.{listed_at, fixed_place, below_place, Adds, HasLists, IsListedAt, CanBeListed, AreListed}
+use Rattle.gu_links.specs.Listed.{listed_at, fixed_place, below_place, Adds, HasLists, IsListedAt}
 use Rattle.gu_types.specs.declared.types.HeapType.TheVariants as H
 use Rattle.gu_contents.proofs.Heights.{least_in_range}
 use Rattle.gu_links.specs.declared.link.Link.TheVariants as L
@@ -24,11 +22,10 @@ use Rattle.gu_links.specs.Listed.{IsPlace, IsListAt, IsBelowType, slot_place, ty
 use Rattle.gu_links.proofs.Firsts.{has_once}
 use Rattle.gu_links.proofs.Sized.{least_slots}
 use Rattle.gu_links.proofs.Within.{slot_least_within}
-use Rattle.gu_links.proofs.Putting.{or_true}
 use Rattle.std.proofs.lemmas.List.{take_more}
 
 -- an element of a list is found there
-pub has_from : (xs : List ℕ) (x : ℕ) → Contains xs x → has xs x ≡ true
+has_from : (xs : List ℕ) (x : ℕ) → Contains xs x → has xs x ≡ true
 has_from xs x h = list_any_at (λ (d : ℕ). nat_eq d x) xs h.0 x h.1 (eq-eqb (get_or xs h.0 x) x h.2)
 
 pub has_is : (xs : List ℕ) (x : ℕ) → has xs x ≡ true → Contains xs x
@@ -42,12 +39,6 @@ more_has false xs n k h = h
 more_below : (b : Bool) (xs : List ℕ) (n end : ℕ) → n < end → All (λ k. k < end) xs → All (λ k. k < end) (cond b (xs ++ n ∷ []) xs)
 more_below true xs n end lt h = All-append (λ k. k < end) xs (n ∷ []) h (All-cons (λ k. k < end) n [] lt (All-nil (λ k. k < end)))
 more_below false xs n end lt h = h
-
--- what is put at the end of a list is found there
-pub has_last : (xs ys : List ℕ) (n : ℕ) → ys ≡ xs ++ n ∷ [] → has ys n ≡ true
-has_last xs ys n e =
-    ap (λ (zs : List ℕ). has zs n) e ∙ list_any-append (λ (d : ℕ). nat_eq d n) xs (n ∷ [])
-    ∙ ap (λ (b : Bool). has xs n || (b || false)) (eq-eqb n n refl) ∙ or_true (has xs n)
 
 -- a number is put at the end of one of some lists
 abbrev pub IsPut : List (List ℕ) → List (List ℕ) → ℕ → ℕ → Type 0
@@ -87,9 +78,6 @@ module _ (number own : ℕ) (old new : Readers) where
       below n lt h (P.Type t) = subst (λ (xs : List ℕ). All (λ k. k < n) xs) (sym (put t)) (more_below (nat_eq own t) (get_or old.at_types.items t []) number n lt (h (P.Type t)))
 
 module _ (number : ℕ) where
-  pub adds_none : (r : Readers) → Adds number r r
-  adds_none r = record { cells = refl; types = refl; kept = λ place k h. h; below = λ n lt h. h }
-
   pub adds_more : (a b c : Readers) → Adds number a b → Adds number b c → Adds number a c
   adds_more a b c x y = record {
     cells = y.cells ∙ x.cells;
@@ -126,7 +114,7 @@ below_within f count (L.CallBy callee ty operands results) room h place e =
 below_within f count _ room h place e = absurd cc
 
 -- the cells on which a link rests whatever they have, each once
-pub once_contains : (link : Link) (c : ℕ) → Contains (fixed_reads link) c → Contains (fixed_once link) c
+once_contains : (link : Link) (c : ℕ) → Contains (fixed_reads link) c → Contains (fixed_once link) c
 unfolding fixed_once
 once_contains link c h = has_is (once_onto [] (fixed_reads link)) c (has_once [] (fixed_reads link) c ∙ has_from (fixed_reads link) c h)
 
@@ -142,19 +130,9 @@ all_once count link h =
 pub all_more : (P : ℕ → Type 0) (xs : List ℕ) (i d : ℕ) → i < length xs → All P (take i xs) → P (get_or xs i d) → All P (take (i + 1) xs)
 all_more P xs i d lt h p = subst (λ (ys : List ℕ). All P ys) (sym (take_more xs i d lt)) (All-append P (take i xs) (get_or xs i d ∷ []) h (All-cons P (get_or xs i d) [] p (All-nil P)))
 
-empty_at : (n d : ℕ) → get_or (replicate n (let none : List ℕ = [] in none)) d [] ≡ []
-empty_at zero d = refl
-empty_at (suc n) zero = refl
-empty_at (suc n) (suc d) = empty_at n d
-
 some_at : (o : Option Place) (p : Place) (Q : Place → Type 0) → o ≡ Some p → IfSome o Q → Q p
 some_at None p Q e h = absurd cc
 some_at (Some q) p Q e h = let same : q ≡ p = cc in subst Q same h
-
--- in empty lists nothing is listed
-pub none_listed : (n : ℕ) (readers : Readers) (cells types : ℕ) → readers.at_cells.items ≡ replicate cells [] → readers.at_types.items ≡ replicate types [] → (place : Place) → All (λ k. k < n) (listed_at readers place)
-none_listed n readers cells types c t (P.Cell d) = subst (λ (xs : List ℕ). All (λ k. k < n) xs) (sym (ap (λ (xs : List (List ℕ)). get_or xs d []) c ∙ empty_at cells d)) (All-nil (λ k. k < n))
-none_listed n readers cells types c t (P.Type d) = subst (λ (xs : List ℕ). All (λ k. k < n) xs) (sym (ap (λ (xs : List (List ℕ)). get_or xs d []) t ∙ empty_at types d)) (All-nil (λ k. k < n))
 
 -- a link is listed, after those before it
 pub listed_next : (f : Facts) (cells : Cells) (links : List Link) (n : ℕ) (a b c : Readers) (fixed : List ℕ)

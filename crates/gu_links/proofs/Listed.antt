@@ -1,10 +1,9 @@
 -- Where the links are listed that read a cell.
-use Rattle.std.proofs.Common.{◌≡◌, ◌∙◌, ℕ, zero, suc, ◌+◌, ◌<◌, ◌≤◌, ◌-◌, ◌^◌, ◌||◌, Bool, true, false, cond, Option, Some, None, option_map, List, [], ◌∷◌, ◌++◌, length, get_or, refl, sym, ap, subst, ⊎_elim, arith}
-use Rattle.std.specs.Prelude.{All, Contains, IfSome, slice_get, slice_index, sum_by, nat_eq, nat_lt, nat_le}
-use Rattle.std.proofs.lemmas.Bool.{cond-true, cond-false, cases_Bool, cases_lt, eqb-true, eq-eqb, ne_eqb, ltb-true, ltb-false, lt-ltb, le-ltb, lt-leb, le-leb}
+use Rattle.std.proofs.Common.{◌≡◌, ◌∙◌, ℕ, suc, ◌+◌, ◌<◌, ◌≤◌, ◌-◌, ◌||◌, Bool, true, false, cond, Option, Some, None, option_map, List, length, get_or, refl, sym, ap, subst, ⊎_elim, arith}
+use Rattle.std.specs.Prelude.{slice_index, sum_by, nat_eq, nat_lt, nat_le}
+use Rattle.std.proofs.lemmas.Bool.{cond-true, cond-false, cases_lt, eqb-true, eq-eqb, ne_eqb, ltb-true, ltb-false, lt-ltb, le-ltb, lt-leb, le-leb}
 use Rattle.std.proofs.lemmas.Option.{slice_get_past}
 use Rattle.gu_types.specs.declared.types.HeapType.TheVariants as H
-use Rattle.gu_types.specs.declared.types.TypeList.{TypeList}
 use Rattle.gu_types.specs.Depth.{types_of, parent, depth}
 use Rattle.gu_rec.specs.Keys.{run}
 use Rattle.gu_rec.specs.Closed.{SameType}
@@ -20,21 +19,18 @@ use Rattle.gu_contents.proofs.Heaps.{same_back, same_through}
 use Rattle.gu_contents.proofs.Heights.{least_is, least_same, least_least, least_in_range}
 use Rattle.gu_links.specs.declared.index.Cells.{Cells}
 use Rattle.gu_links.specs.Cells.{comp_results, count_of, slot_cell, out_cell, own_cells, own_slots, slots_of, slots_before, before_func, is_least, params_of, results_of}
-use Rattle.gu_links.specs.Over.{has_slot}
 use Rattle.gu_links.specs.Index.{CellsAre, own_places}
-use Rattle.gu_links.specs.Ways.{ReadsSlot, ReadsResult, result_way}
+use Rattle.gu_links.specs.Ways.{ReadsSlot, ReadsResult}
 use Rattle.gu_links.specs.declared.link.Link.{Link}
-use Rattle.gu_links.specs.declared.link.Link.TheVariants as L
-use Rattle.gu_links.specs.declared.readers.Place.{Place}
 use Rattle.gu_links.specs.declared.readers.Place.TheVariants as P
 use Rattle.gu_links.specs.Listed.{result_of, result_owner, result_place, owner_place, fixed_place, slot_place, type_place, IsPlace}
-use Rattle.gu_links.proofs.Within.{slot_within, slot_least_within, out_within, least_again}
+use Rattle.gu_links.proofs.Within.{slot_within, out_within, least_again}
 use Rattle.gu_links.proofs.Tables.{read}
 use Rattle.gu_links.proofs.Owning.{located, least_owner, slot_before}
 use Rattle.gu_links.proofs.Sized.{least_slots}
 
 -- a function that has a result has a type
-pub result_typed : (f : Facts) (g : ℕ) → 0 < results_of f g → slice_index f.funcs g < length (types_of f.types)
+result_typed : (f : Facts) (g : ℕ) → 0 < results_of f g → slice_index f.funcs g < length (types_of f.types)
 result_typed f g h = ⊎_elim
     (λ (lt : slice_index f.funcs g < length (types_of f.types)). lt)
     (λ (past : length (types_of f.types) ≤ slice_index f.funcs g).
@@ -93,11 +89,11 @@ module _ (f : Facts) (cells : Cells) (are : CellsAre f cells) where
       }
 
   -- no function has the cell of a slot
-  pub slot_owner : (c : ℕ) → c < cells.slot_cells → result_owner cells c ≡ None
+  slot_owner : (c : ℕ) → c < cells.slot_cells → result_owner cells c ≡ None
   slot_owner c lt = ap (λ (b : Bool). cond (b || nat_le (length cells.owners.items) c) None (result_of cells (slice_index cells.owners.items c) c)) (lt-ltb c cells.slot_cells lt)
 
   -- a function has the cells of its results
-  pub out_owner : (g j : ℕ) → g < length f.funcs → j < results_of f g → result_owner cells (out_cell f g j) ≡ Some g
+  out_owner : (g j : ℕ) → g < length f.funcs → j < results_of f g → result_owner cells (out_cell f g j) ≡ Some g
   unfolding out_cell
   out_owner g j lt h =
       let c : ℕ = before_func f g + (params_of f g + j) in
@@ -234,10 +230,10 @@ module _ (f : Facts) (cells : Cells) (are : CellsAre f cells) where
         let b = slot_before f cells are r.of slot (length (types_of f.types)) r.in_range r.least r.has in
         let e = are.slots_end in let i = r.cell_is in omega arith
 
-    pub reads_at : cell ≡ slots_before f r.of + slot
+    reads_at : cell ≡ slots_before f r.of + slot
     reads_at = r.cell_is ∙ slot_first r.of slot r.least
 
-    pub reads_owner : get_or cells.owners.items cell 0 ≡ r.of
+    reads_owner : get_or cells.owners.items cell 0 ≡ r.of
     reads_owner = ap (λ (k : ℕ). get_or cells.owners.items k 0) reads_at ∙ are.types_own r.of slot r.in_range r.least (ltb-true slot (slots_of f.types r.of) r.has)
 
     pub reads_far : (v : ℕ) → v ≡ get_or cells.owners.items cell 0 → distance f.types (H.Idx ty) (H.Idx v) ≡ Some up

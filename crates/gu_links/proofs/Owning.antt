@@ -1,6 +1,6 @@
 -- Which type or function has each of the first cells.
-use Rattle.std.proofs.Common.{◌≡◌, ◌∙◌, ℕ, zero, suc, ◌+◌, ◌<◌, ◌≤◌, ◌-◌, true, false, ⊎_elim, List, [], ◌∷◌, ◌++◌, length, get_or, map, append_assoc, refl, sym, ap, ap₂, subst, arith}
-use Rattle.std.specs.Prelude.{flat_map, replicate, sum_by, slice_index}
+use Rattle.std.proofs.Common.{◌≡◌, ◌∙◌, ℕ, zero, suc, ◌+◌, ◌<◌, ◌≤◌, ◌-◌, true, false, ⊎_elim, List, [], ◌∷◌, ◌++◌, length, get_or, map, append_assoc, refl, sym, ap, subst, arith}
+use Rattle.std.specs.Prelude.{flat_map, replicate, sum_by}
 use Rattle.std.proofs.lemmas.Bool.{cond-true, cond-false, cases_Bool, cases_lt, eqb-true, ltb-true}
 use Rattle.std.proofs.lemmas.List.{get_or_append_left, get_or-append-add, get_or_default, length-append, length-replicate, get_or-replicate, flat_map_more, replicate-append-replicate}
 use Rattle.std.proofs.lemmas.List.Sums.{sum_by-cons}

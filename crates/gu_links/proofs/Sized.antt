@@ -68,7 +68,7 @@ slots_are : (list : TypeList) (i : ℕ) → found_slots (closed_type list i) ≡
 unfolding closed_type closed_types
 slots_are list i = found_at (close_on [] list.groups) i ∙ ap (λ (ns : List ℕ). get_or ns i 0) (on_slots [] [] list.groups refl) ∙ sym (type_at (types_of list) i)
 
-pub same_slots : (list : TypeList) (i j : ℕ) → SameType list i list j → slots_of list i ≡ slots_of list j
+same_slots : (list : TypeList) (i j : ℕ) → SameType list i list j → slots_of list i ≡ slots_of list j
 unfolding SameType
 same_slots list i j s = sym (slots_are list i) ∙ ap found_slots s ∙ slots_are list j
 

@@ -1,5 +1,5 @@
 -- By which ways links read cells, and that the links listed by these are the readers.
-use Rattle.std.proofs.Common.{◌≡◌, ◌∙◌, ℕ, ◌+◌, ◌<◌, ◌≤◌, true, Option, Some, None, List, [], ◌∷◌, length, get_or, refl, sym, ap, subst, ⊎_elim, inl, inr, arith}
+use Rattle.std.proofs.Common.{◌≡◌, ℕ, ◌<◌, ◌≤◌, true, Option, Some, List, [], ◌∷◌, length, get_or, refl, subst, ⊎_elim, arith}
 use Rattle.std.specs.Prelude.{All, Contains}
 use Rattle.std.proofs.lemmas.List.Elements.{All-nil, All-cons, All-head, All-tail, All-contains}
 use Rattle.std.specs.List.{list_any}
@@ -13,13 +13,14 @@ use Rattle.gu_links.specs.declared.index.Cells.{Cells}
 use Rattle.gu_links.specs.declared.readers.Place.{Place}
 use Rattle.gu_links.specs.declared.readers.Readers.{Readers}
 use Rattle.gu_links.specs.Cells.{own_cells, slots_of}
-use Rattle.gu_links.specs.Solutions.{Fits, IsSystem}
+use Rattle.gu_links.specs.Solutions.{Fits, IsSystem, IsReader}
 use Rattle.gu_links.specs.Over.{names}
 use Rattle.gu_links.specs.Kept.{has, fixed_reads}
 use Rattle.gu_links.specs.Known.{link_at}
 use Rattle.gu_links.specs.Ways.{ReadsSlot, ReadsResult, ReadsBelow, IsReadBy}
-use Rattle.gu_links.specs.Listed.{listed_at, fixed_place, below_place, slot_place, type_place, CanBeListed, IsListedAt, AreListed}
+use Rattle.gu_links.specs.Listed.{listed_at, fixed_place, slot_place, type_place, CanBeListed, IsListedAt, AreListed}
 use Rattle.gu_links.proofs.Within.{slot_within, out_within}
+use Rattle.gu_links.proofs.Finding.{readers_are_found}
 
 one_below : (count a : ℕ) → a < count → All (λ c. c < count) (a ∷ [])
 one_below count a lt = All-cons (λ c. c < count) a [] lt (All-nil (λ c. c < count))
@@ -28,7 +29,7 @@ two_below : (count a b : ℕ) → a < count → b < count → All (λ c. c < cou
 two_below count a b lt h = All-cons (λ c. c < count) a (b ∷ []) lt (one_below count b h)
 
 -- a link that fits a system can be listed
-pub fits_listed : (f : Facts) (longs : List ℕ) (count : ℕ) (link : Link) → Fits f longs count link → CanBeListed f count link
+fits_listed : (f : Facts) (longs : List ℕ) (count : ℕ) (link : Link) → Fits f longs count link → CanBeListed f count link
 fits_listed f longs count (L.Root give to) h = record { fixed = All-nil (λ c. c < count); below = tt }
 fits_listed f longs count (L.Copy from to) h = record { fixed = one_below count from h.0; below = tt }
 fits_listed f longs count (L.NonNull from to) h = record { fixed = one_below count from h.0; below = tt }
@@ -103,3 +104,7 @@ named_in f longs count g (link ∷ links) fit e = ⊎_elim
 
 pub named_fits : (f : Facts) (longs : List ℕ) (count : ℕ) (links : List Link) → IsSystem f longs count links → (g : ℕ) → list_any (names g) links ≡ true → IsFunc f g
 named_fits f longs count links system g e = named_in f longs count g links system.fit e
+
+-- each link of a system that reads a cell reads it by one of the 64 ways
+pub every_reader : (f : Facts) (longs : List ℕ) (count : ℕ) (links : List Link) → IsSystem f longs count links → (cell : ℕ) (link : Link) → Contains links link → IsReader f links cell link → (up : ℕ) × (up ≤ 63) × IsReadBy f links cell up link
+every_reader f longs count links system cell link listed reader = let found = readers_are_found f links cell link reader in (found.up, found.most, found.way)

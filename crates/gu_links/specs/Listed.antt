@@ -1,5 +1,5 @@
 -- Where the links are listed that read a cell. No public contract speaks of it.
-use Rattle.std.specs.Prelude.{ℕ, ◌≡◌, ◌<◌, Bool, true, ◌||◌, List, [], Option, Some, None, All, Contains, length, nat_eq, nat_le, nat_lt, slice_index, slice_index_or, if◌then◌else◌}
+use Rattle.std.specs.Prelude.{ℕ, ◌≡◌, ◌<◌, true, ◌||◌, List, [], Option, Some, None, All, Contains, length, nat_eq, nat_le, nat_lt, slice_index, slice_index_or, if◌then◌else◌}
 use Rattle.gu_types.specs.Depth.{types_of, depth}
 use Rattle.gu_contents.specs.declared.facts.Facts.{Facts}
 use Rattle.gu_contents.specs.Contents.{least_of}

@@ -1,4 +1,4 @@
-use Rattle.std.proofs.Common.{◌≡◌, ◌+◌, ◌<◌, ◌≤◌, ◌^◌, ℕ, length, get_or, refl, sym, ap, ◌∙◌, subst, arith, rules}
+use Rattle.std.proofs.Common.{◌+◌, ◌<◌, ◌^◌, length, refl, arith, rules}
 use Rattle.gu_types.specs.Depth.{types_of}
 use Rattle.gu_contents.proofs.Heights.{least_is}
 use Rattle.gu_links.proofs.Within.{least_below, slot_least_within}

@@ -1,10 +1,11 @@
-use Rattle.std.proofs.Common.{◌≡◌, ℕ, List, true, sym, ap, ◌∙◌, subst, arith}
+use Rattle.std.proofs.Common.{List, sym, ap, ◌∙◌, subst, arith}
+use Rattle.std.specs.Prelude.{All}
 use Rattle.std.specs.List.{list_any}
 use Rattle.gu_links.specs.declared.link.Link.{Link}
 use Rattle.gu_links.specs.Over.{names}
 use Rattle.gu_links.specs.Index.{IsIndexed}
-use Rattle.gu_links.specs.Listed.{AreListed}
-use Rattle.gu_links.proofs.Ways.{named_fits}
+use Rattle.gu_links.specs.Listed.{CanBeListed, AreListed}
+use Rattle.gu_links.proofs.Ways.{can_be_listed, named_fits}
 use Rattle.gu_links.proofs.system.System.new.Goals as goal
 
 pub new-requires-clause-named : goal.new-requires-clause-named
@@ -21,3 +22,7 @@ invariant_of-result c =
       indexed = subst (λ (links : List Link). IsIndexed facts links c.in_ok-index.index) c.as_slice.ensures c.in_ok-index.ensures;
       listed = subst (λ (links : List Link). AreListed facts c.args.cells links c.in_ok-index.index.cells c.in_ok-readers.readers) c.as_slice-2.ensures c.in_ok-readers.ensures;
     }
+
+pub new-requires-2-clause-links : goal.new-requires-2-clause-links
+new-requires-2-clause-links c =
+    subst (λ (links : List Link). All (CanBeListed c.args.facts.now c.args.cells) links) (sym c.as_slice-2.ensures) (can_be_listed c.args.facts.now c.args.longs c.args.cells c.args.links c.requires)
