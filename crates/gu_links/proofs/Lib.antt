@@ -23,3 +23,6 @@ pub mod Firsts
 pub mod Knowing
 pub mod Finding
 pub mod Closing
+pub mod Distinct
+pub mod Asking
+pub mod Onward
