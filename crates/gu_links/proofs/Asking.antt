@@ -1,5 +1,5 @@
 -- The cells for which a link asks: each stands once, all are cells of the system, and they are those on which it rests.
-use Rattle.std.proofs.Common.{◌≡◌, ◌∙◌, ℕ, suc, ◌+◌, ◌<◌, ◌≤◌, ◌&&◌, Bool, true, false, List, [], ◌∷◌, ◌++◌, map, length, get_or, sym, ap, subst, ⊎_elim, arith}
+use Rattle.std.proofs.Common.{◌≡◌, ◌∙◌, ℕ, suc, ◌+◌, ◌<◌, ◌≤◌, ◌&&◌, Bool, true, false, List, [], ◌∷◌, ◌++◌, map, length, get_or, ap, subst, ⊎_elim, arith}
 use Rattle.std.specs.Prelude.{All, Contains, flat_map, not, slice_get, Some}
 use Rattle.std.specs.List.{filter as keep, list_any}
 use Rattle.std.proofs.lemmas.Bool.{and_parts, cases_Bool, cond-true, eqb-true, ltb-true, not-true, not_from_false}
@@ -13,10 +13,10 @@ use Rattle.gu_contents.specs.declared.facts.Facts.{Facts}
 use Rattle.gu_contents.specs.Contents.{least_of}
 use Rattle.gu_links.specs.declared.link.Link.{Link}
 use Rattle.gu_links.specs.declared.link.Link.TheVariants as L
-use Rattle.gu_links.specs.Cells.{slot_cell, out_cell, out_cells, own_cells, slots_of, slots_before, before_func, is_least, params_of, results_of}
+use Rattle.gu_links.specs.Cells.{slot_cell, out_cell, out_cells, own_cells, slots_of, slots_before, before_func, is_least, results_of}
 use Rattle.gu_links.specs.Over.{over, is_over, has_slot, callees, is_callee, names}
 use Rattle.gu_links.specs.Gives.{Contents, reads}
-use Rattle.gu_links.specs.Solutions.{Fits, AllCells}
+use Rattle.gu_links.specs.Solutions.{Fits}
 use Rattle.gu_links.specs.Kept.{has, fixed_reads, fixed_once, further_reads}
 use Rattle.gu_links.specs.Known.{asked_for}
 use Rattle.gu_links.proofs.Lists.{run_below, all_map_kept_from, all_kept_from}

@@ -1,5 +1,5 @@
 -- Lists in which each number stands once, and lists that rise.
-use Rattle.std.proofs.Common.{◌≡◌, ◌∙◌, ℕ, zero, suc, ◌+◌, ◌<◌, ◌≤◌, ◌||◌, Bool, true, false, cond, List, [], ◌∷◌, ◌++◌, Some, map, length, get_or, take, refl, sym, ap, subst, ⊎_elim, arith}
+use Rattle.std.proofs.Common.{◌≡◌, ◌∙◌, ℕ, zero, suc, ◌+◌, ◌<◌, ◌≤◌, ◌||◌, Bool, true, false, cond, List, [], ◌∷◌, ◌++◌, Some, map, get_or, take, refl, sym, subst, ⊎_elim, arith}
 use Rattle.std.specs.Prelude.{All, Contains, flat_map, nat_eq, slice_get}
 use Rattle.std.specs.List.{filter as keep}
 use Rattle.std.proofs.lemmas.Bool.{both_ways, cond_both, eq-eqb, ne_eqb, eqb-true, false_from_ne_true, or_cases, or_from, or_parts}
@@ -38,10 +38,10 @@ before_new (x ∷ xs) (suc n) c h e =
 pub once_append : (xs ys : List ℕ) → IsOnce xs → IsOnce ys → All (λ y. has xs y ≡ false) ys → IsOnce (xs ++ ys)
 once_append [] ys h k a = k
 once_append (x ∷ xs) ys h k a = (
-    list_any-append (λ d. nat_eq d x) xs ys
-    ∙ or_from (has xs x) (has ys x) h.0
-    (false_from_ne_true (has ys x) (λ there. both_ways (nat_eq x x) (or_parts (nat_eq x x) (has xs x) (All-contains (λ y. (nat_eq x y || has xs y) ≡ false) ys x a (from_has ys x there))).0 (eq-eqb x x refl))),
-    once_append xs ys h.1 k (λ i d lt. (or_parts (nat_eq x (get_or ys i d)) (has xs (get_or ys i d)) (a i d lt)).1),
+  list_any-append (λ d. nat_eq d x) xs ys
+      ∙ or_from (has xs x) (has ys x) h.0
+      (false_from_ne_true (has ys x) (λ there. both_ways (nat_eq x x) (or_parts (nat_eq x x) (has xs x) (All-contains (λ y. (nat_eq x y || has xs y) ≡ false) ys x a (from_has ys x there))).0 (eq-eqb x x refl))),
+  once_append xs ys h.1 k (λ i d lt. (or_parts (nat_eq x (get_or ys i d)) (has xs (get_or ys i d)) (a i d lt)).1),
 )
 
 pub once_is_once : (seen cells : List ℕ) → IsOnce seen → IsOnce (once_onto seen cells)
@@ -79,8 +79,8 @@ rising_once (x ∷ xs) h = (list_any_none (λ d. nat_eq d x) xs (λ k d lt. ne_e
 rising_append : (m : ℕ) (xs ys : List ℕ) → IsRising xs → IsRising ys → All (λ c. c < m) xs → All (λ c. m ≤ c) ys → IsRising (xs ++ ys)
 rising_append m [] ys h k below above = k
 rising_append m (x ∷ xs) ys h k below above = (
-    All-append (λ y. x < y) xs ys h.0 (λ i d lt. let a : m ≤ get_or ys i d = above i d lt in let b = All-head (λ c. c < m) x xs below in omega arith),
-    rising_append m xs ys h.1 k (All-tail (λ c. c < m) x xs below) above,
+  All-append (λ y. x < y) xs ys h.0 (λ i d lt. let a : m ≤ get_or ys i d = above i d lt in let b = All-head (λ c. c < m) x xs below in omega arith),
+  rising_append m xs ys h.1 k (All-tail (λ c. c < m) x xs below) above,
 )
 
 -- What is made of the kept numbers of a run rises, where what is made of each does, and stays within bounds that rise

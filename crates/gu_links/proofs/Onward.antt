@@ -1,6 +1,6 @@
 -- What is known of a link's cells, and the next of them.
-use Rattle.std.proofs.Common.{◌≡◌, ◌∙◌, ℕ, zero, suc, ◌+◌, ◌-◌, ◌<◌, ◌≤◌, ◌&&◌, Bool, true, false, cond, List, [], ◌∷◌, ◌++◌, Option, Some, None, map, length, get_or, take, sym, ap, subst, ⊎_elim, arith}
-use Rattle.std.specs.Prelude.{All, Contains, IfSome, IfNone, nat_eq, nat_lt, not, slice_get}
+use Rattle.std.proofs.Common.{◌≡◌, ◌∙◌, ℕ, zero, suc, ◌+◌, ◌-◌, ◌<◌, ◌≤◌, Bool, cond, List, [], ◌∷◌, ◌++◌, Option, Some, None, length, get_or, take, sym, ap, subst, ⊎_elim, arith}
+use Rattle.std.specs.Prelude.{All, Contains, IfSome, IfNone, nat_eq, not, slice_get}
 use Rattle.std.specs.List.{filter as keep}
 use Rattle.std.proofs.lemmas.Bool.{both_ways, cases_lt, cond-true, cond-false, eq-eqb, ne_eqb}
 use Rattle.std.proofs.lemmas.Option.{none-some, slice_get_within, slice_get-get_or, get_or_from_slice_get}
@@ -143,19 +143,19 @@ module _ (f : Facts) (longs : List ℕ) (links : List Link) (link : Link) (known
           contents = x;
           has = record {
             at = All-push P known last
-            (λ k d lt. cond-false (nat_eq c (get_or known k d).0) a (is.contents (get_or known k d).0) (ne_eqb c (get_or known k d).0 (λ e. new_one (subst (Contains (cells_of known)) (sym e) (known_cell k d lt)))) ∙ is.has.at k d lt)
-            (cond-true (nat_eq c c) a (is.contents c) (eq-eqb c c (let z : c ≡ c = omega arith in z)));
+                (λ k d lt. cond-false (nat_eq c (get_or known k d).0) a (is.contents (get_or known k d).0) (ne_eqb c (get_or known k d).0 (λ e. new_one (subst (Contains (cells_of known)) (sym e) (known_cell k d lt)))) ∙ is.has.at k d lt)
+                (cond-true (nat_eq c c) a (is.contents c) (eq-eqb c c (let z : c ≡ c = omega arith in z)));
           };
           are_of = All-push (λ (k : Item). IsOf f longs k.1) known last is.are_of of;
           in_order = λ y h.
-            let hk : Has known y = record { at = all_front (λ (k : Item). y k.0 ≡ k.1) known (last ∷ []) h.at } in
-            let asked : List ℕ = asked_for f links link y in
-            let e : slice_get asked (length known) ≡ Some c = sym (next y hk) in
-            map_push (λ (k : Item). k.0) known last
-            ∙ ap (λ (cs : List ℕ). cs ++ c ∷ []) (is.in_order y hk)
-            ∙ ap (λ (d : ℕ). take (length known) asked ++ d ∷ []) (sym (get_or_from_slice_get asked (length known) c c e))
-            ∙ sym (take_more asked (length known) c (slice_get_within asked (length known) c e))
-            ∙ ap (λ (m : ℕ). take m asked) (sym (length_push known last));
+              let hk : Has known y = record { at = all_front (λ (k : Item). y k.0 ≡ k.1) known (last ∷ []) h.at } in
+              let asked : List ℕ = asked_for f links link y in
+              let e : slice_get asked (length known) ≡ Some c = sym (next y hk) in
+              map_push (λ (k : Item). k.0) known last
+              ∙ ap (λ (cs : List ℕ). cs ++ c ∷ []) (is.in_order y hk)
+              ∙ ap (λ (d : ℕ). take (length known) asked ++ d ∷ []) (sym (get_or_from_slice_get asked (length known) c c e))
+              ∙ sym (take_more asked (length known) c (slice_get_within asked (length known) c e))
+              ∙ ap (λ (m : ℕ). take m asked) (sym (length_push known last));
         }
 
   pub is_read : (o : Option ℕ) → IsNext o → IfSome o (λ c. (x : Contents) → Has known x → Contains (reads f links link x) c)

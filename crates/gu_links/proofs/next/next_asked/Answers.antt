@@ -1,8 +1,7 @@
-use Rattle.std.proofs.Common.{◌≡◌, ◌∙◌, ℕ, ◌+◌, ◌-◌, ◌<◌, ◌^◌, length, get_or, ap, arith, rules}
+use Rattle.std.proofs.Common.{◌∙◌, ℕ, ◌+◌, ◌-◌, ◌<◌, ◌^◌, length, get_or, ap, arith, rules}
 use Rattle.gu_contents.specs.declared.content.Content.TheVariants.{Empty}
-use Rattle.gu_links.specs.Gives.{Contents}
 use Rattle.gu_links.specs.Kept.{further_reads}
-use Rattle.gu_links.specs.Known.{Has, Item}
+use Rattle.gu_links.specs.Known.{Item}
 use Rattle.gu_links.specs.Next.{first_of, is_rest}
 use Rattle.gu_links.proofs.Onward.{fixed_next, fixed_known, known_below, other_first, other_next}
 use Rattle.gu_links.proofs.next.next_asked.Goals as goal
@@ -30,6 +29,6 @@ returns c x h =
     let with_first = λ (first : ℕ). first_of (is_rest c.args.fixed.now first) (further_reads f c.args.s.now.links c.args.link.now x) in
     c.further_next.ensures x h
     ∙ elim c.if-known-fixed-2.branch [
-        then-known-fixed-2 w ↦ ap with_first w.first-is ∙ other_next f c.args.s.now.longs c.args.s.now.links c.args.link.now c.args.known.now c.requires.known c.args.fixed.now c.requires.fixed x h none w.if-known-fixed-2.true
+      | then-known-fixed-2 w ↦ ap with_first w.first-is ∙ other_next f c.args.s.now.longs c.args.s.now.links c.args.link.now c.args.known.now c.requires.known c.args.fixed.now c.requires.fixed x h none w.if-known-fixed-2.true
       | else-known-fixed-2 w ↦ ap with_first w.first-is ∙ other_first f c.args.s.now.longs c.args.s.now.links c.args.link.now c.args.known.now c.requires.known c.args.fixed.now c.requires.fixed x h (let more = c.if-known-fixed.false in let l = w.if-known-fixed-2.false in omega arith)
     ]
