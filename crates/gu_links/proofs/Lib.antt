@@ -27,3 +27,6 @@ pub mod Sized
 pub mod Listed
 pub mod Adding
 pub mod Ways
+pub mod Distinct
+pub mod Asking
+pub mod Onward
