@@ -5,3 +5,11 @@ pub mod Solutions
 pub mod Reading
 pub mod States
 pub mod Laws
+pub mod Kept
+pub mod Known
+pub mod Index
+pub mod Applied
+pub mod Listing
+pub mod Ways
+pub mod Next
+pub mod Listed

@@ -9,7 +9,7 @@ use Rattle.gu_contents.specs.Order.{AtMost}
 use Rattle.gu_contents.specs.Belongs.{Belongs, IsListed, IsFunc}
 use Rattle.gu_links.specs.declared.link.Link.{Link}
 use Rattle.gu_links.specs.declared.link.Link.TheVariants as L
-use Rattle.gu_links.specs.Cells.{own_cells}
+use Rattle.gu_links.specs.Cells.{own_cells, slots_of}
 use Rattle.gu_links.specs.Gives.{Contents, Asked, gives, reads}
 
 -- what the cells of a list have, and nothing behind them
@@ -72,7 +72,7 @@ abbrev pub AllCells : ℕ → List ℕ → Type 0
 AllCells count cells = All (λ c. c < count) cells
 
 -- A link fits a system of so many cells: its cells are among them, its types and functions are in the facts, and its
--- contents belong to them and to the list of 64-bit literals
+-- contents belong to them and to the list of 64-bit literals. A slot that it reads is one of its type's
 abbrev pub Fits : Facts → List ℕ → ℕ → Link → Type 0
 Fits f longs count (L.Root give to) = IsOf f longs give × (to < count)
 Fits f longs count (L.Copy from to) = (from < count) × (to < count)
@@ -83,10 +83,10 @@ Fits f longs count (L.Test from by to) = (from < count) × (to < count) × IsHea
 Fits f longs count (L.IsNull from to) = (from < count) × (to < count)
 Fits f longs count (L.Equal left right to) = (left < count) × (right < count) × (to < count)
 Fits f longs count (L.Pack storage from to) = (from < count) × (to < count)
-Fits f longs count (L.SlotGet object ty slot storage signed to) = (object < count) × (to < count) × IsType f ty
+Fits f longs count (L.SlotGet object ty slot storage signed to) = (object < count) × (to < count) × IsType f ty × (slot < slots_of f.types ty)
 Fits f longs count (L.SlotSet object ty slot storage from) = (object < count) × (from < count) × IsType f ty
 Fits f longs count (L.SlotFill object ty slot give) = (object < count) × IsOf f longs give × IsType f ty
-Fits f longs count (L.SlotCopy target to_ty source from_ty) = (target < count) × (source < count) × IsType f to_ty × IsType f from_ty
+Fits f longs count (L.SlotCopy target to_ty source from_ty) = (target < count) × (source < count) × IsType f to_ty × IsType f from_ty × (0 < slots_of f.types from_ty)
 Fits f longs count (L.CallBy callee ty operands results) = (callee < count) × IsType f ty × AllCells count operands × AllCells count results
 Fits f longs count (L.Internalise from to) = (from < count) × (to < count)
 Fits f longs count (L.Externalise from to) = (from < count) × (to < count)

@@ -1,2 +1,4 @@
 pub mod Work
 pub mod Laws
+pub mod Steps
+pub mod Known

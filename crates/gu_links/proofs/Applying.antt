@@ -1,0 +1,69 @@
+-- What a link asks for, by its kind.
+use Rattle.std.proofs.Common.{◌≡◌, ℕ, ◌+◌, ◌<◌, List, [], ◌∷◌, Result, Ok, Err, map, length, sym, refl, ap, ap₂, ◌∙◌, subst}
+use Rattle.std.specs.Prelude.{All, Contains, IfOk}
+use Rattle.std.proofs.lemmas.List.Elements.{All-head, All-tail, All-nil}
+use Rattle.gu_contents.specs.declared.content.Content.{Content}
+use Rattle.gu_contents.specs.declared.facts.Facts.{Facts}
+use Rattle.gu_links.specs.Cells.{slot_cell}
+use Rattle.gu_links.specs.declared.link.Link.{Link}
+use Rattle.gu_links.specs.declared.link.Link.TheVariants as L
+use Rattle.gu_links.specs.Gives.{Contents, Asked, reads}
+use Rattle.gu_links.specs.Kept.{fixed_reads, further_reads}
+use Rattle.gu_links.proofs.Lists.{all_front, all_back}
+use Rattle.gu_links.specs.Known.{Has, Item, cells_of}
+use Rattle.gu_links.proofs.Walks.{unmapped}
+
+pub if_ok_then : {A E : Type 0} (r : Result A E) (P Q : A → Type 0) → ((a : A) → P a → Q a) → IfOk r P → IfOk r Q
+if_ok_then (Ok a) P Q h p = h a p
+if_ok_then (Err e) P Q h p = p
+
+-- a content is that of a cell
+abbrev pub Reads : List Item → Content → ℕ → Type 0
+Reads known a from = (x : Contents) → Has known x → Contains (cells_of known) from → a ≡ x from
+
+module _ {E : Type 0} (known : List Item) where
+  -- one content is made of one
+  pub unary : (op : Content → Content) (from to : ℕ) (a v : Content) (r : Result (List Asked) E) → All (Contains (cells_of known)) (from ∷ []) → Reads known a from → v ≡ op a
+      → IfOk r (λ asked. asked ≡ (to, v) ∷ []) → IfOk r (λ asked. (x : Contents) → Has known x → asked ≡ (to, op (x from)) ∷ [])
+  unary op from to a v r fixed reads is e =
+      if_ok_then r (λ asked. asked ≡ (to, v) ∷ []) (λ asked. (x : Contents) → Has known x → asked ≡ (to, op (x from)) ∷ [])
+      (λ asked p x h. p ∙ ap (λ (b : Content). (to, b) ∷ []) (is ∙ ap op (reads x h (All-head (Contains (cells_of known)) from [] fixed)))) e
+
+  -- or of two
+  pub binary : (op : Content → Content → Content) (left right to : ℕ) (a b v : Content) (r : Result (List Asked) E) → All (Contains (cells_of known)) (left ∷ right ∷ []) → Reads known a left → Reads known b right → v ≡ op a b
+      → IfOk r (λ asked. asked ≡ (to, v) ∷ []) → IfOk r (λ asked. (x : Contents) → Has known x → asked ≡ (to, op (x left) (x right)) ∷ [])
+  binary op left right to a b v r fixed reads more is e =
+      if_ok_then r (λ asked. asked ≡ (to, v) ∷ []) (λ asked. (x : Contents) → Has known x → asked ≡ (to, op (x left) (x right)) ∷ [])
+      (λ asked p x h. p ∙ ap (λ (b : Content). (to, b) ∷ []) (is ∙ ap₂ op (reads x h (All-head (Contains (cells_of known)) left (right ∷ []) fixed)) (more x h (All-head (Contains (cells_of known)) right [] (All-tail (Contains (cells_of known)) left (right ∷ []) fixed))))) e
+
+-- the slots of types are known
+pub slots_known : (f : Facts) (cells : List ℕ) (slot : ℕ) (ts us : List ℕ) → ts ≡ us → All (Contains cells) (map (λ t. slot_cell f t slot) ts) → All (λ t. Contains cells (slot_cell f t slot)) us
+slots_known f cells slot ts us e h = unmapped (Contains cells) (λ t. slot_cell f t slot) us (subst (λ (ts : List ℕ). All (Contains cells) (map (λ t. slot_cell f t slot) ts)) e h)
+
+-- a link rests on its fixed cells, and on its further ones
+pub reads_fixed : (f : Facts) (links : List Link) (link : Link) (x : Contents) (Q : ℕ → Type 0) → All Q (reads f links link x) → All Q (fixed_reads link)
+unfolding reads
+reads_fixed f links (L.Root give to) x Q a = a
+reads_fixed f links (L.Copy from to) x Q a = a
+reads_fixed f links (L.NonNull from to) x Q a = a
+reads_fixed f links (L.Filter from by to) x Q a = a
+reads_fixed f links (L.Minus from by to) x Q a = a
+reads_fixed f links (L.Test from by to) x Q a = a
+reads_fixed f links (L.IsNull from to) x Q a = a
+reads_fixed f links (L.Equal left right to) x Q a = a
+reads_fixed f links (L.Pack storage from to) x Q a = a
+reads_fixed f links (L.SlotGet object ty slot storage signed to) x Q a = all_front Q (object ∷ []) _ a
+reads_fixed f links (L.SlotSet object ty slot storage from) x Q a = a
+reads_fixed f links (L.SlotFill object ty slot give) x Q a = a
+reads_fixed f links (L.SlotCopy target to_ty source from_ty) x Q a = all_front Q (target ∷ source ∷ []) _ a
+reads_fixed f links (L.CallBy callee ty operands results) x Q a = all_front Q (callee ∷ operands) _ a
+reads_fixed f links (L.Internalise from to) x Q a = a
+reads_fixed f links (L.Externalise from to) x Q a = a
+reads_fixed f links (L.Callable function) x Q a = a
+
+pub reads_further : (f : Facts) (links : List Link) (link : Link) (x : Contents) (Q : ℕ → Type 0) → All Q (reads f links link x) → All Q (further_reads f links link x)
+unfolding reads
+reads_further f links (L.SlotGet object ty slot storage signed to) x Q a = all_back Q (object ∷ []) _ a
+reads_further f links (L.SlotCopy target to_ty source from_ty) x Q a = all_back Q (target ∷ source ∷ []) _ a
+reads_further f links (L.CallBy callee ty operands results) x Q a = all_back Q (callee ∷ operands) _ a
+reads_further f links link x Q a = All-nil Q
