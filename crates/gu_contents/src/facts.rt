@@ -100,7 +100,7 @@ impl Facts {
     }
 
     /// The cone that stands for a core where it meets another, or `Core::Bottom`.
-    pub(crate) fn cone_of(&self, core: Core) -> Core
+    pub fn cone_of(&self, core: Core) -> Core
         requires { CoreBelongs self.now core }
         ensures value { result ≡ contents.cone_of self.now core }
         ensures belongs { CoreBelongs self.now result }
