@@ -22,4 +22,3 @@ pub mod Owning
 pub mod Firsts
 pub mod Knowing
 pub mod Finding
-pub mod Closing
