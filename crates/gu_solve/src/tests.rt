@@ -1,14 +1,22 @@
 //! Worked examples, over a module without types, functions and globals.
+ghost use Rattle.std.specs.Prelude.{◌≡◌, ℕ, List as Items, [], All, IfOk};
+ghost use Rattle.gu_contents.specs.declared.facts.Facts.{Facts};
+ghost use Rattle.gu_links.specs.Solutions.{Fits};
+
 use crate::close_from;
 use gu_contents::{Content, Facts, Longs};
 use gu_links::{Link, System};
 use gu_rec::intern;
 use gu_types::{List, TypeList};
-use std::alloc::{AllocError, Global};
+use std::alloc::Global;
 use std::test::Fail;
 
 /// The facts of a module with nothing in it.
-fn no_facts(alloc: Global) -> Result<Facts, Fail> {
+#[tactic(auto, using(gu_rec::proofs::Lines::few_are_shallow))]
+fn no_facts(alloc: Global) -> Result<Facts, Fail>
+    ensures types { IfOk result (λ f. f.types.groups ≡ []) }
+    ensures funcs { IfOk result (λ f. f.funcs ≡ []) }
+{
     let list = TypeList {
         groups: List::new(alloc),
     };
@@ -21,7 +29,9 @@ fn no_facts(alloc: Global) -> Result<Facts, Fail> {
 }
 
 /// The least solution of links over five cells, from nothing in each.
-fn solved(alloc: Global, links: Vec<Link>) -> Result<List<Content>, Fail> {
+fn solved(alloc: Global, links: Vec<Link>) -> Result<List<Content>, Fail>
+    requires { (f : Facts) (longs : Items ℕ) → All (Fits f longs 5) links.items }
+{
     let facts = no_facts(alloc)?;
     let longs = Longs::new(alloc)?;
     let s = System::new(alloc, List::from_vec(links), 5, &facts, longs)?;
