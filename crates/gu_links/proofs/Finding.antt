@@ -1,14 +1,14 @@
--- Each link that reads a cell is found by way of a type few supertypes above the cell's own.
-use Rattle.std.proofs.Common.{◌≡◌, ℕ, zero, suc, ◌<◌, ◌≤◌, ◌&&◌, Bool, true, false, cond, Option, Some, None, List, [], ◌∷◌, map, length, sym, refl, ap, ◌∙◌, inl, inr, ⊎_elim, arith}
-use Rattle.std.specs.Prelude.{All, Contains, flat_map, slice_get, slice_index, is_some, option_map}
+-- Each link that reads a cell is found by one of the 64 ways.
+use Rattle.std.proofs.Common.{◌≡◌, ℕ, zero, suc, ◌+◌, ◌<◌, ◌≤◌, ◌&&◌, Bool, true, false, cond, Option, Some, None, List, [], ◌∷◌, map, length, sym, refl, ap, ◌∙◌, inl, inr, ⊎_elim, arith}
+use Rattle.std.specs.Prelude.{All, Contains, nat_eq, flat_map, slice_get, slice_index, is_some, option_map}
 use Rattle.std.specs.List.{list_any}
-use Rattle.std.proofs.lemmas.Bool.{and_parts}
+use Rattle.std.proofs.lemmas.Bool.{and_parts, eq-eqb, cases_eq}
 use Rattle.std.proofs.lemmas.List.Elements.{Contains-append_cases, All-contains, All-map}
 use Rattle.gu_types.specs.declared.types.Abs.{Abs}
 use Rattle.gu_types.specs.declared.types.SubType.{SubType}
 use Rattle.gu_types.specs.declared.types.TypeList.{TypeList}
 use Rattle.gu_types.specs.declared.types.HeapType.TheVariants as H
-use Rattle.gu_types.specs.Depth.{types_of, parent, depth_within, one_above}
+use Rattle.gu_types.specs.Depth.{types_of, parent, depth, depth_within, one_above}
 use Rattle.gu_rec.specs.Keys.{run}
 use Rattle.gu_rec.specs.Sub.{distance, is_sub, line, line_within, root_line, next_line, same_heap, abs_line, kind_of}
 use Rattle.gu_rec.specs.Table.{place}
@@ -22,7 +22,8 @@ use Rattle.gu_links.specs.Cells.{slot_cell, out_cell, out_cells, is_least, resul
 use Rattle.gu_links.specs.Over.{over, is_over, has_slot, callees, is_callee, names}
 use Rattle.gu_links.specs.Gives.{Contents, reads}
 use Rattle.gu_links.specs.Solutions.{IsReader}
-use Rattle.gu_links.specs.Reading.{named_cells, IsSlotBelow, IsResultBelow, IsFound}
+use Rattle.gu_links.specs.Kept.{fixed_reads}
+use Rattle.gu_links.specs.Ways.{ReadsSlot, ReadsResult, result_way, IsFound}
 use Rattle.gu_links.proofs.Lists.{run_below, all_map_kept_from, all_kept_from}
 
 -- no index stands among abstract heap types
@@ -55,33 +56,40 @@ place_deep list ty zero i k e = few_more (same_heap list (H.Idx ty) (H.Idx i)) (
     (λ j d. none_some _ j 0 (no_root list ty (slice_get (types_of list) i)) d)
 place_deep list ty (suc m) i k e = deep_next list ty m i k (parent (types_of list) i) (λ super j d. place_deep list ty m super j d) e
 
--- a type stands at most 63 declared supertypes below another
-pub distance_few : (f : Facts) (ty i k : ℕ) → distance f.types (H.Idx ty) (H.Idx i) ≡ Some k → k ≤ 63
+-- a type stands at most as many declared supertypes below another as its depth says
+distance_deep : (f : Facts) (ty i k : ℕ) → distance f.types (H.Idx ty) (H.Idx i) ≡ Some k → k ≤ depth (types_of f.types) i
 unfolding line
-distance_few f ty i k e =
-    let d = place_deep f.types ty i i k (sym (distance_is f.types (H.Idx ty) (H.Idx i)) ∙ e) in let s = f.shallow i in omega arith
+distance_deep f ty i k e = place_deep f.types ty i i k (sym (distance_is f.types (H.Idx ty) (H.Idx i)) ∙ e)
 
 record Edges (f : Facts) (ty i : ℕ) : Type 0 where
   up : ℕ
-  most : up ≤ 63
+  deep : up ≤ depth (types_of f.types) i
   is : distance f.types (H.Idx ty) (H.Idx i) ≡ Some up
 
 edges_of : (f : Facts) (ty i : ℕ) (o : Option ℕ) → distance f.types (H.Idx ty) (H.Idx i) ≡ o → is_some o ≡ true → Edges f ty i
 edges_of f ty i None e s = absurd cc
-edges_of f ty i (Some k) e s = record { up = k; most = distance_few f ty i k e; is = e }
+edges_of f ty i (Some k) e s = record { up = k; deep = distance_deep f ty i k e; is = e }
 
 below_edges : (f : Facts) (ty i : ℕ) → is_sub f.types (H.Idx i) (H.Idx ty) ≡ true → Edges f ty i
 below_edges f ty i e = edges_of f ty i (distance f.types (H.Idx ty) (H.Idx i)) refl (sym (sub_distance f.types f.hold (H.Idx i) (H.Idx ty) refl) ∙ e)
 
+-- there are ways enough for the results of a function
+way_most : (b : Bool) (d far : ℕ) → nat_eq d 63 ≡ b → d ≤ 63 → far ≤ d → cond b far (far + 1) ≤ 63
+way_most true d far e few deep = omega arith
+way_most false d far e few deep = ⊎_elim
+    (λ (same : d ≡ 63). absurd (let bad : true ≡ false = sym (eq-eqb d 63 same) ∙ e in cc))
+    (λ (other : d ≡ 63 → ⊥). omega arith)
+    (cases_eq d 63)
+
 record SlotFound (f : Facts) (ty slot cell : ℕ) : Type 0 where
   up : ℕ
   most : up ≤ 63
-  way : IsSlotBelow f cell ty slot up
+  way : ReadsSlot f ty slot cell up
 
 record ResultFound (f : Facts) (links : List Link) (ty cell : ℕ) : Type 0 where
   up : ℕ
   most : up ≤ 63
-  way : IsResultBelow f links cell ty up
+  way : ReadsResult f links ty cell up
 
 slot_found : (f : Facts) (a : Content) (ty slot s : ℕ) → s < length (types_of f.types) → (has_slot f slot s && is_over f a ty s) ≡ true → SlotFound f ty slot (slot_cell f s slot)
 unfolding is_over
@@ -90,7 +98,7 @@ slot_found f a ty slot s lt e =
     let q = and_parts (is_least f.types s) _ p.1 in
     let r = and_parts (is_sub f.types (H.Idx s) (H.Idx ty)) _ q.1 in
     let d = below_edges f ty s r.0 in
-    record { up = d.up; most = d.most; way = record { own = s; in_range = lt; least = q.0; has = p.0; cell_is = refl; above = d.is } }
+    record { up = d.up; most = let few = f.shallow s in let deep = d.deep in omega arith; way = record { of = s; in_range = lt; least = q.0; has = p.0; far = d.is; cell_is = refl } }
 
 slots_found : (f : Facts) (a : Content) (ty slot : ℕ) → All (SlotFound f ty slot) (map (λ s. slot_cell f s slot) (over f a ty slot))
 unfolding over
@@ -105,7 +113,11 @@ result_found f links a ty g lt e =
     let q = and_parts (is_sub f.types (H.Idx (slice_index f.funcs g)) (H.Idx ty)) _ p.1 in
     let d = below_edges f ty (slice_index f.funcs g) q.0 in
     All-map (ResultFound f links ty) (out_cell f g) (run 0 (results_of f g))
-    (λ k e' l. record { up = d.up; most = d.most; way = record { function = g; index = _; in_range = lt; callable = p.0; has = run_below 0 (results_of f g) (results_of f g) (omega arith) k e' l; cell_is = refl; above = d.is } })
+    (λ k e' l. record {
+      up = result_way f g d.up;
+      most = way_most (nat_eq (depth (types_of f.types) (slice_index f.funcs g)) 63) (depth (types_of f.types) (slice_index f.funcs g)) d.up refl (f.shallow (slice_index f.funcs g)) d.deep;
+      way = record { of = g; place = _; far = d.up; in_range = lt; named = p.0; has = run_below 0 (results_of f g) (results_of f g) (omega arith) k e' l; far_is = d.is; cell_is = refl; way = refl };
+    })
 
 results_found : (f : Facts) (links : List Link) (a : Content) (ty : ℕ) → All (ResultFound f links ty) (flat_map (out_cells f) (callees f links a ty))
 unfolding callees
@@ -113,7 +125,7 @@ results_found f links a ty =
     all_kept_from (λ g. g < length f.funcs) (λ g. list_any (names g) links && is_callee f a ty g) (ResultFound f links ty) (out_cells f) (result_found f links a ty)
     (run 0 (length f.funcs)) (run_below 0 (length f.funcs) (length f.funcs) (omega arith))
 
-by_number : (f : Facts) (links : List Link) (cell : ℕ) (link : Link) → Contains (named_cells link) cell → IsFound f links cell link
+by_number : (f : Facts) (links : List Link) (cell : ℕ) (link : Link) → Contains (fixed_reads link) cell → IsFound f links cell link
 by_number f links cell link h = record { up = 0; most = omega arith; way = inl (refl, h) }
 
 -- what a link reads it names, or it is found by way of a type

@@ -1,17 +1,17 @@
 -- What is known of the cells on which a link rests is enough.
-use Rattle.std.proofs.Common.{◌≡◌, ℕ, eqb, List, [], ◌∷◌, get_or, sym, refl, ap, ◌∙◌, subst, arith}
+use Rattle.std.proofs.Common.{◌≡◌, ℕ, eqb, List, [], ◌∷◌, get_or, refl, sym, ap, ◌∙◌, subst, arith}
 use Rattle.std.specs.Prelude.{Contains}
 use Rattle.std.proofs.lemmas.Bool.{cond-true, cond-false, eq-eqb, ne_eqb, cases_eq}
-use Rattle.std.proofs.lemmas.List.Elements.{All-nil, All-head, All-tail, Contains-append_cases}
+use Rattle.std.proofs.lemmas.List.Elements.{All-head, All-nil, All-tail, Contains-append_cases}
 use Rattle.std.proofs.Common.{⊎_elim, inl, inr, ◌⊎◌}
 use Rattle.gu_contents.specs.declared.content.Content.{Content}
 use Rattle.gu_contents.specs.declared.content.Content.TheVariants.{Empty}
 use Rattle.gu_contents.specs.declared.facts.Facts.{Facts}
 use Rattle.gu_links.specs.declared.link.Link.{Link}
 use Rattle.gu_links.specs.Gives.{Contents, reads}
-use Rattle.gu_links.specs.Reading.{Known, known_cells, shown, Agrees, Suffices}
 use Rattle.gu_links.specs.Known.{Item, IsKnown}
 use Rattle.gu_links.specs.Solutions.{IsOf}
+use Rattle.gu_links.specs.Reading.{Known, known_cells, shown, Agrees, Suffices}
 use Rattle.gu_links.specs.Laws.{IsSameOn}
 use Rattle.gu_links.proofs.Local.{same_on}
 
@@ -36,7 +36,7 @@ shown_is (p ∷ known) x c h k = ⊎_elim
 pub known_is_enough : (f : Facts) (links : List Link) (link : Link) (known : Known) (x : Contents) → Agrees known x → Suffices f links link known → IsSameOn f links link (shown known) x
 known_is_enough f links link known x h s = same_on f links (shown known) x link (record { at = λ k d lt. shown_is known x (get_or (reads f links link (shown known)) k d) h (s.read k d lt) })
 
--- nothing is known as yet of what a link rests on
+-- where nothing is known yet, what is known is what was asked for
 pub nothing_known : (f : Facts) (longs : List ℕ) (links : List Link) (link : Link) → IsKnown f longs links link []
 nothing_known f longs links link = record {
   contents = λ c. Empty;

@@ -22,3 +22,10 @@ pub mod Owning
 pub mod Firsts
 pub mod Knowing
 pub mod Finding
+pub mod Sized
+pub mod Listed
+pub mod Adding
+pub mod Ways
+pub mod Distinct
+pub mod Asking
+pub mod Onward

@@ -1,8 +1,7 @@
 -- Lists of cells in which each stands once.
-use Rattle.std.proofs.Common.{◌≡◌, ℕ, zero, suc, ◌+◌, ◌<◌, ◌≤◌, Bool, true, false, cond, List, [], ◌∷◌, ◌++◌, length, map, take, sym, refl, ap, ◌∙◌, subst, arith}
+use Rattle.std.proofs.Common.{◌≡◌, ℕ, cond, List, [], ◌∷◌, ◌++◌, refl}
 use Rattle.std.specs.Prelude.{All, Contains}
 use Rattle.std.proofs.lemmas.List.Elements.{All-map, All-contains}
-use Rattle.gu_contents.specs.declared.content.Content.{Content}
 use Rattle.gu_links.specs.Known.{Item, cells_of}
 use Rattle.gu_links.specs.Kept.{has, once_onto}
 

@@ -1,6 +1,6 @@
 -- Which type or function has each of the first cells.
-use Rattle.std.proofs.Common.{◌≡◌, ◌∙◌, ℕ, zero, suc, ◌+◌, ◌<◌, ◌≤◌, ◌-◌, true, false, ⊎_elim, List, [], ◌∷◌, ◌++◌, length, get_or, map, append_assoc, refl, sym, ap, ap₂, subst, arith}
-use Rattle.std.specs.Prelude.{flat_map, replicate, sum_by, slice_index}
+use Rattle.std.proofs.Common.{◌≡◌, ◌∙◌, ℕ, zero, suc, ◌+◌, ◌<◌, ◌≤◌, ◌-◌, true, false, ⊎_elim, List, [], ◌∷◌, ◌++◌, length, get_or, map, append_assoc, refl, sym, ap, subst, arith}
+use Rattle.std.specs.Prelude.{flat_map, replicate, sum_by}
 use Rattle.std.proofs.lemmas.Bool.{cond-true, cond-false, cases_Bool, cases_lt, eqb-true, ltb-true}
 use Rattle.std.proofs.lemmas.List.{get_or_append_left, get_or-append-add, get_or_default, length-append, length-replicate, get_or-replicate, flat_map_more, replicate-append-replicate}
 use Rattle.std.proofs.lemmas.List.Sums.{sum_by-cons}
@@ -151,7 +151,7 @@ pub record Located (g : ℕ → ℕ) (n c : ℕ) : Type 0 where
   pub has : within < g owner
   pub is : c ≡ sum_by g (run 0 owner) + within
 
-located : (g : ℕ → ℕ) (n c : ℕ) → c < sum_by g (run 0 n) → Located g n c
+pub located : (g : ℕ → ℕ) (n c : ℕ) → c < sum_by g (run 0 n) → Located g n c
 located g zero c lt = absurd (omega arith)
 located g (suc n) c lt =
     let more = sum_more g n in
@@ -163,7 +163,7 @@ located g (suc n) c lt =
 
 -- the type that has a cell of a slot, and that all slots of the types before it stand before it
 module _ (f : Facts) (cells : Cells) (are : CellsAre f cells) where
-  slot_before : (t slot n : ℕ) → t < n → is_least f.types t ≡ true → has_slot f slot t ≡ true → slot_cell f t slot < slots_before f n
+  pub slot_before : (t slot n : ℕ) → t < n → is_least f.types t ≡ true → has_slot f slot t ≡ true → slot_cell f t slot < slots_before f n
   unfolding slot_cell
   slot_before t slot n lt least has =
       let e : slots_before f (least_of f.types t) ≡ slots_before f t = ap (slots_before f) (eqb-true (least_of f.types t) t least) in
@@ -172,7 +172,7 @@ module _ (f : Facts) (cells : Cells) (are : CellsAre f cells) where
       let own = cond-true (is_least f.types t) (slots_of f.types t) 0 least in
       let h = ltb-true slot (slots_of f.types t) has in omega arith
 
-  least_owner : (t s : ℕ) → s < own_slots f.types t → (is_least f.types t ≡ true) × (s < slots_of f.types t)
+  pub least_owner : (t s : ℕ) → s < own_slots f.types t → (is_least f.types t ≡ true) × (s < slots_of f.types t)
   least_owner t s h = ⊎_elim
       (λ (e : is_least f.types t ≡ true). (e, subst (λ (n : ℕ). s < n) (cond-true (is_least f.types t) (slots_of f.types t) 0 e) h))
       (λ (e : is_least f.types t ≡ false). absurd (let z = cond-false (is_least f.types t) (slots_of f.types t) 0 e in omega arith))

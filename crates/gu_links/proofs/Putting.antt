@@ -1,5 +1,5 @@
 -- One item more at the type of an item and at those above it.
-use Rattle.std.proofs.Common.{◌≡◌, ◌≢◌, ℕ, zero, suc, ◌+◌, ◌<◌, ◌≤◌, ◌&&◌, ◌||◌, Bool, true, false, not, cond, List, [], ◌∷◌, ◌++◌, Option, Some, None, option_map, length, is_some, get_or, set, append_assoc, sym, refl, ap, ◌∙◌, subst, ⊎_elim, arith}
+use Rattle.std.proofs.Common.{◌≡◌, ℕ, suc, ◌<◌, ◌&&◌, ◌||◌, Bool, true, false, not, cond, List, [], ◌∷◌, ◌++◌, Option, Some, None, option_map, length, is_some, get_or, set, sym, refl, ap, ◌∙◌, subst, ⊎_elim, arith}
 use Rattle.std.specs.Prelude.{nat_eq}
 use Rattle.std.proofs.lemmas.Bool.{cases_Bool, eqb-true, eq-eqb}
 use Rattle.std.proofs.lemmas.List.{get_or-set_other}
@@ -19,7 +19,6 @@ use Rattle.gu_contents.proofs.Heaps.{distance_tall, step_tall, same_back, same_t
 use Rattle.gu_contents.proofs.Heights.{least_same, least_least}
 use Rattle.gu_links.specs.Cells.{is_least}
 use Rattle.gu_links.specs.Kept.{is_below}
-use Rattle.gu_links.proofs.Reaching.{and_true}
 
 same_bool : (a b : Bool) → (a ≡ true → b ≡ true) → (b ≡ true → a ≡ true) → a ≡ b
 same_bool true b h k = sym (h refl)

@@ -2,7 +2,7 @@
 use Rattle.std.proofs.Common.{◌≡◌, ℕ, zero, suc, ◌+◌, ◌<◌, ◌≤◌, ◌&&◌, Bool, true, false, cond, List, [], ◌∷◌, Option, Some, None, length, is_some, sym, refl, ap, ◌∙◌, subst, ⊎_elim, arith}
 use Rattle.std.specs.Prelude.{slice_index, nat_eq, if◌then◌else◌}
 use Rattle.std.specs.List.{filter as keep, list_any}
-use Rattle.std.proofs.lemmas.Bool.{cases_Bool, cases_eq, cases_lt, and_parts, and_from, eqb-true, eq-eqb}
+use Rattle.std.proofs.lemmas.Bool.{cases_Bool, cases_eq, cases_lt, and_from, eqb-true, eq-eqb}
 use Rattle.std.proofs.lemmas.List.Elements.{filter_agree}
 use Rattle.gu_types.specs.declared.types.Abs.{Abs}
 use Rattle.gu_types.specs.declared.types.Abs.TheVariants as A
@@ -20,14 +20,13 @@ use Rattle.gu_contents.specs.declared.facts.Facts.{Facts}
 use Rattle.gu_contents.specs.Contents.{least_of, least_index, bound, cone_of, type_of_func, refs}
 use Rattle.gu_contents.specs.Order.{cone_at_most, reaches}
 use Rattle.gu_contents.specs.Whole.{whole, all}
-use Rattle.gu_contents.specs.Meets.{filter, meet, meet_heap, meet_cone, below_head}
-use Rattle.gu_contents.specs.Belongs.{Belongs, CoreBelongs, IsFunc, IsBounded}
+use Rattle.gu_contents.specs.Meets.{filter, meet, meet_cone, below_head}
+use Rattle.gu_contents.specs.Belongs.{Belongs, CoreBelongs}
 use Rattle.gu_contents.proofs.Belonging.{answers_belong}
 use Rattle.gu_contents.proofs.Heaps.{distance_self, distance_adds, above_named, below_named, sub_distance}
 use Rattle.gu_contents.proofs.Heights.{least_name}
 use Rattle.gu_links.specs.declared.link.Link.{Link}
 use Rattle.gu_links.specs.declared.reach.Reach.{Reach}
-use Rattle.gu_links.specs.declared.reach.Callees.{Callees}
 use Rattle.gu_links.specs.declared.reach.Callees.TheVariants.{One}
 use Rattle.gu_links.specs.Cells.{is_least}
 use Rattle.gu_links.specs.Over.{covers, covers_func, is_over, is_callee, ref_to, has_slot, over, callees, names}

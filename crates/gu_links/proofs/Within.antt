@@ -1,12 +1,11 @@
 -- The cells of slots, parameters and results are the first ones.
 use Rattle.std.proofs.Common.{◌≡◌, ◌∙◌, ℕ, zero, suc, ◌+◌, ◌<◌, ◌≤◌, true, List, [], ◌∷◌, ◌++◌, length, get_or, refl, sym, ap, subst, ⊎_elim, arith}
-use Rattle.std.specs.Prelude.{nat_eq, slice_get, Some, sum_by}
+use Rattle.std.specs.Prelude.{nat_eq, sum_by}
 use Rattle.std.proofs.lemmas.Bool.{ltb-true, eqb-true, eq-eqb, ne_eqb, cond-true, cond-false, cases_lt, lt-ltb}
 use Rattle.std.proofs.lemmas.List.{get_or_append_left, get_or_push, length-append, get_or_default}
 use Rattle.std.proofs.lemmas.List.Sums.{sum_by-cons, sum_by_push}
 use Rattle.gu_types.specs.Depth.{types_of}
 use Rattle.gu_rec.specs.Keys.{run}
-use Rattle.gu_types.specs.declared.types.SubType.{SubType}
 use Rattle.gu_types.specs.declared.types.TypeList.{TypeList}
 use Rattle.gu_rec.specs.Closed.{SameType}
 use Rattle.gu_types.specs.declared.types.HeapType.TheVariants as H
@@ -14,7 +13,7 @@ use Rattle.gu_contents.proofs.Heights.{least_is, least_same, least_least, least_
 use Rattle.gu_contents.proofs.Heaps.{same_self, same_through}
 use Rattle.gu_contents.specs.declared.facts.Facts.{Facts}
 use Rattle.gu_contents.specs.Contents.{least_of}
-use Rattle.gu_links.specs.Cells.{comp_slots, count_of, slot_cell, param_cell, out_cell, own_cells, own_slots, slots_of, slots_before, before_func, is_least, params_of, results_of}
+use Rattle.gu_links.specs.Cells.{slot_cell, param_cell, out_cell, own_cells, own_slots, slots_of, slots_before, before_func, is_least, params_of, results_of}
 use Rattle.gu_links.specs.Over.{has_slot}
 
 -- a part of a sum over a run of numbers, with one more of its terms
@@ -57,10 +56,6 @@ out_within f g j lt h = let part = func_part f g lt in omega arith
 -- whether an index is the least of its type, by the least index that denotes the same type
 pub is_least_by : (list : TypeList) (i r : ℕ) → SameType list i list r → ((j : ℕ) → SameType list i list j → r ≤ j) → is_least list i ≡ nat_eq r i
 is_least_by list i r same least = ap (λ k. nat_eq k i) (sym (least_is list i r same least))
-
-pub own_slots_least : (list : TypeList) (i r n : ℕ) (sub : SubType) → SameType list i list r → ((j : ℕ) → SameType list i list j → r ≤ j) → r ≡ i → slice_get (types_of list) i ≡ Some sub → n ≡ comp_slots sub.comp → n ≡ own_slots list i
-own_slots_least list i r n sub same least e found is =
-    is ∙ (ap (count_of comp_slots) (sym found) ∙ sym (cond-true (is_least list i) (slots_of list i) 0 (is_least_by list i r same least ∙ eq-eqb r i e)))
 
 pub own_slots_other : (list : TypeList) (i r : ℕ) → SameType list i list r → ((j : ℕ) → SameType list i list j → r ≤ j) → (r ≡ i → ⊥) → 0 ≡ own_slots list i
 own_slots_other list i r same least e = sym (cond-false (is_least list i) (slots_of list i) 0 (is_least_by list i r same least ∙ ne_eqb r i e))
@@ -111,7 +106,7 @@ unfolding slot_cell
 slot_is f ty slot r same least = ap (λ k. slots_before f k + slot) (least_is f.types ty r same least)
 
 -- the least index of a type is its own least
-least_again : (list : TypeList) (ty : ℕ) → least_of list (least_of list ty) ≡ least_of list ty
+pub least_again : (list : TypeList) (ty : ℕ) → least_of list (least_of list ty) ≡ least_of list ty
 least_again list ty =
     sym (least_is list (least_of list ty) (least_of list ty) (same_self list (least_of list ty)) (λ j same. least_least list ty j (same_through list ty (least_of list ty) j (least_same list ty) same)))
 

@@ -12,3 +12,4 @@ pub mod Applied
 pub mod Listing
 pub mod Ways
 pub mod Next
+pub mod Listed

@@ -1,5 +1,5 @@
 -- By which of 64 ways a link reads a cell.
-use Rattle.std.specs.Prelude.{ℕ, ◌+◌, ◌<◌, ◌≡◌, ◌⊎◌, true, List, Some, Contains, length, nat_eq, slice_index, if◌then◌else◌}
+use Rattle.std.specs.Prelude.{ℕ, ◌+◌, ◌<◌, ◌≤◌, ◌≡◌, ◌⊎◌, true, List, Some, Contains, length, nat_eq, slice_index, if◌then◌else◌}
 use Rattle.std.specs.List.{list_any}
 use Rattle.gu_types.specs.declared.types.HeapType.TheVariants as H
 use Rattle.gu_types.specs.Depth.{types_of, depth}
@@ -10,6 +10,7 @@ use Rattle.gu_links.specs.declared.link.Link.TheVariants as L
 use Rattle.gu_links.specs.Cells.{is_least, slot_cell, out_cell, results_of}
 use Rattle.gu_links.specs.Over.{has_slot, names}
 use Rattle.gu_links.specs.Kept.{fixed_reads}
+use Rattle.gu_links.specs.Solutions.{IsReader}
 
 -- a link that goes over the types at or below one reads the slot of a type that stands so many supertypes below
 pub record ReadsSlot (f : Facts) (ty slot cell up : ℕ) : Type 0 where
@@ -30,6 +31,7 @@ pub record ReadsResult (f : Facts) (links : List Link) (ty cell up : ℕ) : Type
   pub of : ℕ
   pub place : ℕ
   pub far : ℕ
+  pub in_range : of < length f.funcs
   pub named : list_any (names of) links ≡ true
   pub has : place < results_of f of
   pub far_is : distance f.types (H.Idx ty) (H.Idx (slice_index f.funcs of)) ≡ Some far
@@ -46,3 +48,13 @@ ReadsBelow f links cell up link = ⊥
 -- a link reads a cell by way of a number: 0 where it reads it whatever the cells have
 abbrev pub IsReadBy : Facts → List Link → ℕ → ℕ → Link → Type 0
 IsReadBy f links cell up link = ((up ≡ 0) × Contains (fixed_reads link) cell) ⊎ ReadsBelow f links cell up link
+
+-- a link that reads a cell by one of the 64 ways
+pub record IsFound (f : Facts) (links : List Link) (cell : ℕ) (link : Link) : Type 0 where
+  pub up : ℕ
+  pub most : up ≤ 63
+  pub way : IsReadBy f links cell up link
+
+-- each link that reads a cell on some contents is found
+abbrev pub ReadersAreFound : Type 0
+ReadersAreFound = (f : Facts) (links : List Link) (cell : ℕ) (link : Link) → IsReader f links cell link → IsFound f links cell link

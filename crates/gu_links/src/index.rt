@@ -127,7 +127,7 @@ pub(crate) fn type_count(f: &Facts) -> Result<u32, AllocError>
 }
 
 /// How many cells the slots of an index take: indices of the same type share those of the least.
-fn own_slots(f: &Facts, ty: u32) -> usize
+pub(crate) fn own_slots(f: &Facts, ty: u32) -> usize
     requires { ty < length (types_of f.now.types) }
     ensures { result ≡ numbers.own_slots f.now.types ty }
 {

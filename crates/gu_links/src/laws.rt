@@ -1,5 +1,5 @@
 //! Laws on links, for all systems. Each is the contract of a function that does nothing.
-ghost use Rattle.gu_links.specs.Reading.{ReadersAreFound};
+ghost use Rattle.gu_links.specs.Ways.{ReadersAreFound};
 ghost use Rattle.gu_links.specs.Laws.{LinksAreLocal, KnownIsEnough, LinksOfNothing, AskedIsProper, SolutionsMeet, LeastExists, LeastIsOne, ClosedIsNotOpen, CoreStatesStayBelow, SolvedCoreStateIsLeast};
 
 /// Contents that agree on the cells on which a link rests have the same such cells, and the link
@@ -12,8 +12,8 @@ pub fn links_are_local()
     ensures nothing { LinksOfNothing }
 {}
 
-/// Each link that reads a cell on some contents names the cell, or is found by way of a type that
-/// stands at most 63 declared supertypes above the cell's own.
+/// Each link that reads a cell on some contents reads it by one of 64 ways: whatever the cells have,
+/// or by way of a type that stands at most 63 declared supertypes above the cell's own.
 pub fn readers_are_found()
     ensures { ReadersAreFound }
 {}

@@ -1,17 +1,17 @@
 //! Which cell a link reads next.
-ghost use Rattle.std.specs.Prelude.{ℕ, ◌≡◌, ◌<◌, ◌≤◌, ◌∷◌, ◌++◌, [], true, None, Some, All, Contains, IfNone, IfSome, flat_map, length, map, take};
+ghost use Rattle.std.specs.Prelude.{ℕ, ◌≡◌, ◌<◌, ◌≤◌, ◌∷◌, ◌++◌, [], true, None, Some, All, Contains, IfNone, IfSome, flat_map, length, map, slice_get, take};
 ghost use Rattle.std.specs.List.Sorted.{IsNonDecreasingBy};
 ghost use Rattle.gu_types.specs.Depth.{types_of};
 ghost use Rattle.gu_contents.specs.Belongs.{Belongs, IsFunc};
 ghost use Rattle.gu_links.specs.Cells.{is_least, out_cells, slot_cell};
-ghost use Rattle.gu_links.specs.Kept.{over_reach, callable, fixed_reads, further_reads};
+ghost use Rattle.gu_links.specs.Kept.{over_reach, callable, fixed_once, fixed_reads, further_reads};
 ghost use Rattle.gu_links.specs.declared.reach.Callees.TheVariants.{Under};
 ghost use Rattle.gu_links.specs.Index.{IsHead, AreCallees};
 ghost use Rattle.gu_links.specs.Next as next;
 ghost use Rattle.gu_contents.specs.declared.content.Content.{Content as Held};
 ghost use Rattle.gu_links.specs.Gives.{Contents, reads};
 ghost use Rattle.gu_links.specs.Solutions.{Fits, IsSystem, IsOf};
-ghost use Rattle.gu_links.specs.Known.{Has, Item, IsKnown, IsEnough, cells_of, link_at};
+ghost use Rattle.gu_links.specs.Known.{Has, Item, IsKnown, IsEnough, asked_for, cells_of, link_at};
 
 use crate::asked::{called, reached};
 use crate::index::results_of;
@@ -202,6 +202,30 @@ fn further_next(
     }
 }
 
+/// The next of the cells on which a link rests, each once and the fixed ones first.
+fn next_asked(
+    s: &System<'_>,
+    link: &Link,
+    fixed: &[usize],
+    known: &[(usize, Content)],
+) -> Option<usize>
+    requires fits { Fits s.now.facts.now s.now.longs s.now.cells link.now }
+    requires fixed { fixed.now ≡ fixed_once link.now }
+    requires known { IsKnown s.now.facts.now s.now.longs s.now.links link.now known.now }
+    ensures { (x : Contents) → Has known.now x → result ≡ slice_get (asked_for s.now.facts.now s.now.links link.now x) (length known.now) }
+{
+    if known.len() < fixed.len() {
+        return Some(fixed[known.len()]);
+    }
+    let mut first = 0;
+    if known.len() > fixed.len() {
+        let (last, _) = known[known.len() - 1];
+        first = last + 1;
+    }
+    let rest = Rest { fixed, first };
+    further_next(s, link, known, rest)
+}
+
 /// How many numbers of a list that rises are less than another.
 fn place_of(rising: &[u32], number: u32) -> usize
     requires { IsNonDecreasingBy (λ (n : ℕ). n) rising.now }
@@ -227,15 +251,6 @@ impl System<'_> {
         ensures more { IsEnough self.now.facts.now self.now.links (link_at self.now.links link) known.now → result ≡ None }
     {
         let fixed = self.index.fixed[link].as_slice();
-        if known.len() < fixed.len() {
-            return Some(fixed[known.len()]);
-        }
-        let mut first = 0;
-        if known.len() > fixed.len() {
-            let (last, _) = known[known.len() - 1];
-            first = last + 1;
-        }
-        let rest = Rest { fixed, first };
-        further_next(self, &self.links.as_slice()[link], known, rest)
+        next_asked(self, &self.links.as_slice()[link], fixed, known)
     }
 }

@@ -4,77 +4,9 @@ ghost use Rattle.gu_types.specs.Depth.{types_of};
 ghost use Rattle.gu_contents.specs.Contents.{least_of};
 ghost use Rattle.gu_links.specs.Cells as cells;
 
+use crate::index::{own_slots, params_of, results_of, type_count};
 use gu_contents::Facts;
-use gu_types::{Comp, SubType};
 use std::alloc::{AllocError, Global};
-
-/// How many slots the values of a composite type have.
-fn slot_count(comp: &Comp) -> usize
-    ensures { result ≡ cells.comp_slots comp.now }
-{
-    match comp {
-        Comp::Func { .. } => 0,
-        Comp::Struct(fields) => fields.as_slice().len(),
-        Comp::Array(_) => 1,
-    }
-}
-
-/// How many parameters the functions of a composite type have.
-fn param_count(comp: &Comp) -> usize
-    ensures { result ≡ cells.comp_params comp.now }
-{
-    match comp {
-        Comp::Func { params, .. } => params.as_slice().len(),
-        _ => 0,
-    }
-}
-
-/// How many results the functions of a composite type have.
-fn result_count(comp: &Comp) -> usize
-    ensures { result ≡ cells.comp_results comp.now }
-{
-    match comp {
-        Comp::Func { results, .. } => results.as_slice().len(),
-        _ => 0,
-    }
-}
-
-/// How many cells the slots of an index take.
-fn own_slots(facts: &Facts, ty: u32, sub: &SubType) -> usize
-    requires in_range { ty < length (types_of facts.now.types) }
-    requires found { slice_get (types_of facts.now.types) ty ≡ Some sub.now }
-    ensures { result ≡ cells.own_slots facts.now.types ty }
-{
-    if facts.types.canon(ty) == ty {
-        slot_count(&sub.comp)
-    } else {
-        0
-    }
-}
-
-/// How many parameters a function has.
-fn params_of(facts: &Facts, func: usize) -> usize
-    requires { func < length facts.now.funcs }
-    ensures { result ≡ cells.params_of facts.now func }
-{
-    let types = facts.funcs.as_slice();
-    match facts.types.get(types[func]) {
-        None => 0,
-        Some(sub) => param_count(&sub.comp),
-    }
-}
-
-/// How many results a function has.
-fn results_of(facts: &Facts, func: usize) -> usize
-    requires { func < length facts.now.funcs }
-    ensures { result ≡ cells.results_of facts.now func }
-{
-    let types = facts.funcs.as_slice();
-    match facts.types.get(types[func]) {
-        None => 0,
-        Some(sub) => result_count(&sub.comp),
-    }
-}
 
 /// A sum of counts of cells. `AllocError` where a `usize` does not count as many: there is no memory
 /// for them.
@@ -83,16 +15,6 @@ fn sum(count: usize, more: usize) -> Result<usize, AllocError>
 {
     match count.checked_add(more) {
         Some(sum) => Ok(sum),
-        None => Err(AllocError),
-    }
-}
-
-/// The next type index. `AllocError` where there is none.
-fn next(ty: u32) -> Result<u32, AllocError>
-    ensures { IfOk result (λ next. next ≡ ty + 1) }
-{
-    match ty.checked_add(1) {
-        Some(next) => Ok(next),
         None => Err(AllocError),
     }
 }
@@ -111,13 +33,12 @@ fn slot_starts(alloc: Global, facts: &Facts) -> Result<Starts, AllocError>
     ensures starts { IfOk result (λ s. (k : ℕ) → k < length s.starts.items → slice_index s.starts.items k ≡ cells.slots_before facts.now k) }
     ensures end { IfOk result (λ s. s.end ≡ cells.slots_before facts.now (length (types_of facts.now.types))) }
 {
+    let types = type_count(facts)?;
     let mut starts = Vec::new(alloc);
     let mut end: usize = 0;
-    let mut ty: u32 = 0;
-    'types: while let Some(sub) = facts.types.get(ty) {
+    'types: for ty in 0..types {
         starts.push(end)?;
-        end = sum(end, own_slots(facts, ty, sub))?;
-        ty = next(ty)?;
+        end = sum(end, own_slots(facts, ty))?;
     }
     Ok(Starts { starts, end })
 }
@@ -132,10 +53,11 @@ fn func_starts(alloc: Global, facts: &Facts, first: usize) -> Result<Starts, All
 {
     let mut starts = Vec::new(alloc);
     let mut end = first;
-    for func in 0..facts.funcs.as_slice().len() {
+    let types = facts.funcs.as_slice();
+    for func in 0..types.len() {
         starts.push(end)?;
-        let params = sum(end, params_of(facts, func))?;
-        end = sum(params, results_of(facts, func))?;
+        let params = sum(end, params_of(facts, types[func]))?;
+        end = sum(params, results_of(facts, types[func]))?;
     }
     Ok(Starts { starts, end })
 }
@@ -207,7 +129,8 @@ impl<'a> Numbering<'a> {
         ensures cell { result ≡ cells.out_cell self.now.facts.now func index }
         ensures within { result < cells.own_cells self.now.facts.now }
     {
-        let params = params_of(self.facts, func as usize);
+        let types = self.facts.funcs.as_slice();
+        let params = params_of(self.facts, types[func as usize]);
         self.funcs[func as usize] + (params + index as usize)
     }
 }

@@ -8,12 +8,13 @@ ghost use Rattle.gu_links.specs.Cells as numbers;
 ghost use Rattle.gu_links.specs.Over.{has_slot, names};
 ghost use Rattle.gu_links.specs.Kept.{in_reach, types_below, functions_below};
 ghost use Rattle.gu_links.specs.Index.{IsIndexed, IsHead};
+ghost use Rattle.gu_links.specs.Listed.{AreListed};
 ghost use Rattle.gu_links.specs.Next as next;
 
 use crate::index::{Index, slots_of, type_count};
 use crate::link::Link;
 use crate::reach::Reach;
-use crate::readers::Readers;
+use crate::readers::{Readers, place_of};
 use gu_contents::{Facts, Longs};
 use gu_types::List;
 use std::alloc::{AllocError, Global};
@@ -36,6 +37,7 @@ pub struct System<'a> {
     ghost few: { numbers.own_cells facts.now < 2 ^ 64 },
     ghost named: { (g : ℕ) → list_any (names g) links ≡ true → IsFunc facts.now g },
     ghost indexed: { IsIndexed facts.now links index } by { Prim.hlevel props },
+    ghost listed: { AreListed facts.now cells links index.cells readers } by { Prim.hlevel props },
 }
 
 impl<'a> System<'a> {
@@ -81,10 +83,12 @@ impl<'a> System<'a> {
         ensures below { All (λ k. k < length self.now.links) result.now }
         ensures found { (k : Number) → k < length self.now.links → IsReadBy self.now.facts.now self.now.links cell up (link_at self.now.links k) → Contains result.now k }
     {
-        if cell < self.cells {
-            self.readers.at(self.facts, &self.index, cell, up)
-        } else {
-            &[]
+        if self.cells <= cell {
+            return &[];
+        }
+        match place_of(self.facts, &self.index.cells, cell, up) {
+            None => &[],
+            Some(place) => self.readers.at(place),
         }
     }
 

@@ -1,4 +1,4 @@
-use Rattle.std.proofs.Common.{◌≡◌, ◌++◌, ◌∷◌, [], ℕ, Bool, List, false, true, get_or, map, rules, ap, sym, ◌∙◌}
+use Rattle.std.proofs.Common.{◌≡◌, ◌++◌, ◌∷◌, [], ℕ, List, false, get_or, map, rules, ap, sym, ◌∙◌}
 use Rattle.std.specs.List.{filter}
 use Rattle.gu_rec.specs.Keys.{run}
 use Rattle.std.specs.Prelude.{slice_index_or}

@@ -1,9 +1,8 @@
-use Rattle.std.proofs.Common.{◌≡◌, ◌<◌, ◌≤◌, ◌&&◌, ◌||◌, ◌++◌, ◌∷◌, [], ℕ, Bool, List, true, false, not, cond, length, get_or, ap, sym, refl, subst, rules, arith, ◌∙◌}
+use Rattle.std.proofs.Common.{◌≡◌, ◌<◌, ◌||◌, ◌++◌, ◌∷◌, [], ℕ, Bool, List, true, false, cond, length, get_or, ap, sym, rules, arith, ◌∙◌}
 use Rattle.std.specs.Prelude.{nat_eq}
 use Rattle.std.proofs.lemmas.List.{length-set, get_or_default}
 use Rattle.gu_types.specs.Depth.{types_of}
 use Rattle.gu_rec.proofs.Lines.{parent_below}
-use Rattle.gu_contents.specs.Contents.{least_of}
 use Rattle.gu_contents.proofs.Heaps.{same_self}
 use Rattle.gu_contents.proofs.Heights.{least_is}
 use Rattle.gu_links.specs.Kept.{is_below}

@@ -1,4 +1,4 @@
-use Rattle.std.proofs.Common.{◌≡◌, ◌<◌, ◌++◌, ◌∷◌, ◌&&◌, [], ℕ, true, not, cond, List, length, get_or}
+use Rattle.std.proofs.Common.{◌≡◌, ◌<◌, ◌++◌, ◌∷◌, ◌&&◌, [], ℕ, true, not, cond, length, get_or}
 use Rattle.gu_types.specs.Depth.{types_of}
 use Rattle.gu_links.specs.Cells.{is_least}
 use Rattle.gu_links.specs.Kept.{is_below}

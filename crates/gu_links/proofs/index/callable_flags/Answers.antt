@@ -1,6 +1,5 @@
-use Rattle.std.proofs.Common.{◌≡◌, ◌<◌, ℕ, true, length, rules, subst, sym, refl, ap, ◌∙◌}
+use Rattle.std.proofs.Common.{◌<◌, ℕ, length, rules, subst, sym, refl, ap, ◌∙◌}
 use Rattle.std.proofs.lemmas.Bool.{eq-eqb}
-use Rattle.gu_links.specs.declared.link.Link.{Link}
 use Rattle.gu_links.specs.Over.{names}
 use Rattle.gu_links.proofs.Below.{any_at}
 use Rattle.gu_links.proofs.index.callable_flags.Goals as goal

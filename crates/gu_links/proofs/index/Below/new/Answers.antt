@@ -1,10 +1,10 @@
-use Rattle.std.proofs.Common.{◌≡◌, ◌<◌, ℕ, List, Some, Bool, false, length, subst, sym, ap, ap₂, ◌∙◌}
+use Rattle.std.proofs.Common.{◌≡◌, ◌<◌, ℕ, List, Some, false, length, subst, sym, ap, ap₂, ◌∙◌}
 use Rattle.std.specs.Prelude.{All, slice_index_or}
 use Rattle.std.specs.List.{list_any}
 use Rattle.gu_types.specs.Depth.{types_of}
 use Rattle.gu_links.specs.Over.{names}
 use Rattle.gu_links.specs.declared.grouped.Typed.{Typed}
-use Rattle.gu_links.specs.Listing.{listed, least_types, callable_functions}
+use Rattle.gu_links.specs.Listing.{listed, callable_functions}
 use Rattle.gu_links.proofs.Below.{types_listed, types_fit, functions_listed, functions_fit}
 use Rattle.gu_links.proofs.index.Below.new.Goals as goal
 

@@ -1,5 +1,7 @@
-use Rattle.std.proofs.Common.{rules, ◌≡◌, ◌+◌, ◌<◌, length, arith}
-use Rattle.gu_links.specs.Cells.{before_func, out_cell}
+use Rattle.std.proofs.Common.{rules, ℕ, ◌≡◌, ◌+◌, ◌<◌, List, length, get_or, ap, arith}
+use Rattle.std.specs.Prelude.{slice_get}
+use Rattle.gu_types.specs.Depth.{types_of}
+use Rattle.gu_links.specs.Cells.{before_func, out_cell, count_of, comp_params}
 use Rattle.gu_links.proofs.Within.{read_is, out_is, out_within}
 use Rattle.gu_links.proofs.numbering.Numbering.out.Goals as goal
 use Rattle.gu_links.proofs.numbering.Numbering.out.Goals.{After-index}
@@ -11,7 +13,12 @@ start_is c =
     read_is s.funcs.items (before_func s.facts.now) c.args.func c.index.result.now lt c.index.ensures s.funcs_are
 
 cell_is : (c : After-index) → c.index.result.now + (c.params_of-params.result + c.args.index) ≡ out_cell c.args.self.now.facts.now c.args.func c.args.index
-cell_is c = let a = start_is c in let b = c.params_of-params.ensures in let e = out_is c.args.self.now.facts.now c.args.func c.args.index in omega arith
+cell_is c =
+    let f = c.args.self.now.facts.now in
+    let same = ap (λ (types : List ℕ). count_of comp_params (slice_get (types_of f.types) (get_or types c.args.func 0))) c.as_slice-types.ensures in
+    let a = start_is c in
+    let b = c.params_of-params.ensures in
+    let e = out_is c.args.self.now.facts.now c.args.func c.args.index in omega arith
 
 within : (c : After-index) → c.index.result.now + (c.params_of-params.result + c.args.index) < c.args.self.now.own
 within c = let a = cell_is c in let o = c.args.self.now.own_is in let w = out_within c.args.self.now.facts.now c.args.func c.args.index c.requires.in_range c.requires.has_result in omega arith
