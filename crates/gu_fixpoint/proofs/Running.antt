@@ -1,5 +1,5 @@
 -- Workers before and after their run, and what their records show.
-use Rattle.std.proofs.Common.{ℕ, zero, suc, ◌≡◌, ◌+◌, ◌<◌, ◌≤◌, Bool, true, List, [], ◌∷◌, ◌++◌, map, length, get_or, sym, refl, ap, ◌∙◌, subst, arith}
+use Rattle.std.proofs.Common.{ℕ, zero, suc, ◌≡◌, ◌+◌, ◌<◌, Bool, true, List, [], ◌∷◌, ◌++◌, map, length, get_or, sym, refl, ap, ◌∙◌, subst, arith}
 use Rattle.std.specs.Prelude.{All, Some, slice_get}
 use Rattle.std.specs.List.{range_with_len}
 use Rattle.std.proofs.lemmas.Option.{none-some, same_Some}
@@ -16,12 +16,10 @@ use Rattle.gu_contents.proofs.Law.{lattice}
 use Rattle.gu_contents.proofs.Belonging.{answers_belong}
 use Rattle.gu_cells.specs.declared.record.Entry.{Entry}
 use Rattle.gu_cells.specs.Record.{BelongsTo, RecordsBelong, CoversAll, Settled}
-use Rattle.gu_cells.specs.Views.{SeatView, IsSameSeat}
+use Rattle.gu_cells.specs.Views.{SeatView}
 use Rattle.gu_links.specs.declared.link.Link.{Link}
-use Rattle.gu_links.specs.Gives.{Contents}
-use Rattle.gu_links.specs.Solutions.{at, AllBelong, IsBelow, Least}
+use Rattle.gu_links.specs.Solutions.{at, Least}
 use Rattle.gu_workers.specs.Work.{IsWork}
-use Rattle.gu_workers.specs.Laws.{AllWork, AreSettled}
 use Rattle.gu_workers.proofs.Settling.{settled_contents_are_least}
 use Rattle.gu_fixpoint.specs.Hands.{IsReady, HasRun, Pairs}
 use Rattle.gu_fixpoint.specs.Track.{IsTrack}

@@ -3,5 +3,7 @@
 
 mod hands;
 mod solving;
+#[cfg(test)]
+mod tests;
 
 pub use solving::solve;

@@ -1,5 +1,5 @@
 -- The least solution exists, and there is no other.
-use Rattle.std.proofs.Common.{◌≡◌, ℕ, zero, suc, ◌+◌, ◌*◌, ◌<◌, ◌≤◌, List, map, sym, refl, ◌∙◌, subst, ⊎_elim, arith}
+use Rattle.std.proofs.Common.{◌≡◌, ℕ, zero, suc, ◌+◌, ◌*◌, ◌<◌, ◌≤◌, List, map, sym, refl, ap, ◌∙◌, subst, ⊎_elim, arith}
 use Rattle.std.specs.Prelude.{All}
 use Rattle.std.specs.List.{range_with_len}
 use Rattle.std.proofs.lemmas.Bool.{cases_lt}
@@ -18,6 +18,15 @@ use Rattle.gu_links.specs.Laws.{SomeLeast}
 use Rattle.gu_links.proofs.Given.{belonging_is_kept, listed_is_kept, gives_proper, all_of}
 use Rattle.gu_links.proofs.Monotone.{gives_down}
 use Rattle.gu_links.proofs.Rounds.{same_contents, all_flat, all_pieces, raise, all_given, ranks, raise_kept, raise_belongs, raise_up, raise_least, raise_met, raise_beyond, ranks_most, stays_or_up}
+
+-- the contents after so many rounds of all that the links ask for
+unfoldable pub rounds : Facts → List Link → ℕ → Contents → Contents
+rounds f links zero x = x
+rounds f links (suc n) x = rounds f links n (raise f (all_given f links x) x)
+
+-- the least solution, as a list of which nothing is asked
+abbrev pub least_contents : Facts → ℕ → List Link → List Content
+least_contents f count links = map (rounds f links (70 * count) (λ c. Empty)) (range_with_len 0 count)
 
 module _ (f : Facts) (lattice : ContentsAreALattice f) (answers : AnswersBelong f) where
   -- contents that are each at most the other are the same
@@ -86,31 +95,39 @@ module _ (f : Facts) (lattice : ContentsAreALattice f) (answers : AnswersBelong 
       beyond = λ c far. raise_beyond f lattice answers count (all_given f links x) x (λ k d lt. (asked_belong x h.belong k d lt).0) c far (h.beyond c far);
     }
 
-    record Still : Type 0 where
-      contents : Contents
-      low : Low contents
-      same : (c : ℕ) → c < count → contents c ≡ round contents c
+    record Still (x : Contents) : Type 0 where
+      low : Low x
+      same : (c : ℕ) → c < count → x c ≡ round x c
 
     round_up : (x : Contents) → Low x → IsBelow f x (round x)
     unfolding round
     round_up x h = raise_up f lattice answers (all_given f links x) x h.belong (have_contents x h.belong)
 
+    -- what a round leaves as it was
+    still_same : (x : Contents) → Low x → ((c : ℕ) → c < count → x c ≡ round x c) → x ≡ round x
+    still_same x h s = same_contents x (round x) (λ c. ⊎_elim (λ (lt : c < count). s c lt) (λ (far : count ≤ c). h.beyond c far ∙ sym ((low_round x h).beyond c far)) (cases_lt c count))
+
+    rounds_same : (n : ℕ) (x : Contents) → x ≡ round x → rounds f links n x ≡ x
+    unfolding round rounds
+    rounds_same zero x e = refl
+    rounds_same (suc n) x e = ap (rounds f links n) (sym e) ∙ rounds_same n x e
+
     -- going up ends, since the ranks are bounded
-    climb : (fuel : ℕ) (x : Contents) → Low x → 70 * count ≤ ranks count x + fuel → Still
+    climb : (fuel : ℕ) (x : Contents) → Low x → 70 * count ≤ ranks count x + fuel → Still (rounds f links fuel x)
+    unfolding round rounds
     climb zero x h room = ⊎_elim
-        (λ (s : (c : ℕ) → c < count → x c ≡ round x c). record { contents = x; low = h; same = s })
+        (λ (s : (c : ℕ) → c < count → x c ≡ round x c). record { low = h; same = s })
         (λ (l : ranks count x < ranks count (round x)). absurd (omega (arith, ranks_most f lattice answers count (round x) (low_round x h).belong)))
         (stays_or_up f lattice answers count x (round x) h.belong (low_round x h).belong (round_up x h))
     climb (suc fuel) x h room = ⊎_elim
-        (λ (s : (c : ℕ) → c < count → x c ≡ round x c). record { contents = x; low = h; same = s })
+        (λ (s : (c : ℕ) → c < count → x c ≡ round x c). let e = still_same x h s in let st : Still x = record { low = h; same = s } in subst Still (sym (ap (rounds f links fuel) (sym e) ∙ rounds_same fuel x e)) st)
         (λ (l : ranks count x < ranks count (round x)). climb fuel (round x) (low_round x h) (omega arith))
         (stays_or_up f lattice answers count x (round x) h.belong (low_round x h).belong (round_up x h))
 
-    still_is_least : (s : Still) → Least f links s.contents
+    still_is_least : (z : Contents) → Still z → Least f links z
     unfolding round
-    still_is_least s =
-        let z = s.contents in
-        let same : z ≡ round z = same_contents z (round z) (λ c. ⊎_elim (λ (lt : c < count). s.same c lt) (λ (far : count ≤ c). s.low.beyond c far ∙ sym ((low_round z s.low).beyond c far)) (cases_lt c count)) in
+    still_is_least z s =
+        let same : z ≡ round z = still_same z s.low s.same in
         let met : All (IsMet f (round z)) (all_given f links z) = raise_met f lattice answers (all_given f links z) z s.low.belong (have_contents z s.low.belong) in
         record {
           belong = s.low.belong;
@@ -126,13 +143,18 @@ module _ (f : Facts) (lattice : ContentsAreALattice f) (answers : AnswersBelong 
 
     pub some_least : SomeLeast f longs count links
     some_least =
-        let s : Still = climb (70 * count) (λ c. Empty) low_first (omega arith) in
-        let z = s.contents in
-        let table = map z (range_with_len 0 count) in
+        let z = rounds f links (70 * count) (λ c. Empty) in
+        let s : Still z = climb (70 * count) (λ c. Empty) low_first (omega arith) in
+        let table = least_contents f count links in
         let same : z ≡ at table = same_contents z (at table) (λ c. sym (tabulated z s.low.beyond c)) in
         record {
           contents = table;
           long = length-map-range_with_len z 0 count;
           is_of = All-map (IsOf f longs) z (range_with_len 0 count) (all_of (λ c. IsOf f longs (z c)) (λ c. record { belongs = s.low.belong.at c; listed = s.low.listed_all c }) (range_with_len 0 count));
-          least = subst (λ (y : Contents). Least f links y) same (still_is_least s);
+          least = subst (λ (y : Contents). Least f links y) same (still_is_least z s);
         }
+
+    -- the same, of the list itself
+    pub least_contents_are : Least f links (at (least_contents f count links))
+    unfolding some_least
+    least_contents_are = some_least.least

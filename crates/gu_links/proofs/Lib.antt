@@ -22,7 +22,6 @@ pub mod Owning
 pub mod Firsts
 pub mod Knowing
 pub mod Finding
-pub mod Closing
 pub mod Sized
 pub mod Listed
 pub mod Adding

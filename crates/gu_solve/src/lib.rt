@@ -6,6 +6,8 @@ ghost use Rattle.gu_links.specs.Solutions.{at, IsOf, IsSystem, IsUnderAll, Least
 ghost use Rattle.gu_worklist.specs.Left.{IsLeftOf};
 
 mod step;
+#[cfg(test)]
+mod tests;
 
 use crate::step::step;
 use gu_contents::Content;

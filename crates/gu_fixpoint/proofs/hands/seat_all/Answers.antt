@@ -1,4 +1,4 @@
-use Rattle.std.proofs.Common.{rules, refl, ◌≡◌, length}
+use Rattle.std.proofs.Common.{rules, refl, ◌≡◌}
 use Rattle.gu_fixpoint.proofs.Running.{map_push, index_push, all_push}
 use Rattle.gu_fixpoint.proofs.hands.seat_all.Goals as goal
 

@@ -1,5 +1,5 @@
 use Rattle.std.proofs.Common.{rules, ◌∙◌}
-use Rattle.gu_fixpoint.proofs.Starting.{empty_is_under_all}
+use Rattle.gu_solve.proofs.Nothing.{empty_is_under_all}
 use Rattle.gu_fixpoint.proofs.solving.alone.Goals as goal
 
 pub close_from-requires-clause-below : goal.close_from-requires-clause-below

@@ -1,4 +1,3 @@
-use Rattle.std.specs.List.{range_with_len}
 use Rattle.std.proofs.lemmas.List.FromFn.{length-map-range_with_len}
 use Rattle.gu_contents.proofs.Law.{lattice}
 use Rattle.gu_contents.proofs.Belonging.{answers_belong}

@@ -1,9 +1,7 @@
-use Rattle.std.proofs.Common.{rules, ◌≡◌, ◌∙◌, ◌<◌, List, [], All, map, length, subst, sym, ap, refl}
+use Rattle.std.proofs.Common.{◌≡◌, ◌∙◌, All, map, length, subst, sym, ap}
 use Rattle.std.specs.List.{range_with_len}
 use Rattle.std.specs.Prelude.{slice_get}
 use Rattle.gu_cells.specs.Views.{SeatView}
-use Rattle.gu_fixpoint.specs.Hands.{IsReady}
-use Rattle.gu_links.specs.Solutions.{at}
 use Rattle.gu_fixpoint.proofs.Running.{long_map, numbers_long, all_ready, numbers_stay, cells_stay, all_worked, unmapped, mapped, is_track, track_is_least}
 use Rattle.gu_fixpoint.proofs.solving.together.Goals as goal
 

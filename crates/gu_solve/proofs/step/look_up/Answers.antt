@@ -4,7 +4,7 @@ use Rattle.gu_contents.specs.declared.content.Content.{Content}
 use Rattle.gu_contents.specs.declared.content.Content.TheVariants.{Empty}
 use Rattle.gu_links.specs.Known.{Item, link_at, cells_of, Has, IsKnown}
 use Rattle.gu_links.specs.Solutions.{at, IsOf}
-use Rattle.gu_links.proofs.Ways.{nothing_known}
+use Rattle.gu_links.proofs.Knowing.{nothing_known}
 use Rattle.gu_worklist.proofs.Unread.{others_known}
 use Rattle.gu_solve.proofs.Rising.{any_default, known_more}
 use Rattle.gu_solve.proofs.step.look_up.Goals as goal

@@ -1,6 +1,6 @@
 use Rattle.std.proofs.Common.{rules, ◌∷◌, ◌++◌, [], List, subst, sym, Contains, arith}
 use Rattle.gu_links.specs.Known.{Item, link_at, cells_of, IsKnown}
-use Rattle.gu_links.proofs.Ways.{nothing_known}
+use Rattle.gu_links.proofs.Knowing.{nothing_known}
 use Rattle.gu_workers.specs.Known.{IsHeld, AreKnown}
 use Rattle.gu_workers.specs.Steps.{Adds}
 use Rattle.gu_worklist.proofs.Unread.{others_known}

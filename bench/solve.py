@@ -1,0 +1,80 @@
+#!/usr/bin/env python3
+"""Times the worklist and the workers on systems of links.
+
+Usage: bench/solve.py [--sizes LINKS,..] [--kinds NAME,..] [--workers COUNT,..] [PROGRAM]
+       (default: 1000,10000,100000,1000000, chains,stars,cone, 1,2,4,8,
+       crates/gu_solve_main/out/gu_solve_main, as `rt run` in that crate builds it)
+
+Prints, for each kind of system and each size, how many joins per link two workers ask for, and the
+seconds by the clock of one solution: by the worklist, and by each number of workers. A time is that
+of further turns: a run that solves the system more often, less a run that solves it once, so that
+neither the process nor making the system counts.
+
+The worklist tells nobody how often it applies a link, so joins are counted, through the gate of the
+workers. In chains and stars a link asks for one join each time that it is applied and something
+stands in the cell that it reads, so there they are its applications. In the cone each time for one
+join per class that the link reaches: the average is printed as the reach.
+"""
+import argparse
+import os
+import sys
+
+from measure import built, run
+
+KINDS = ("chains", "stars", "cone")
+# How many links all further turns have together, about, and how many runs the fastest is of.
+WORK = 2_000_000
+RUNS = 3
+# The classes of the cone, and how many stand in a chain below the first one.
+CLASSES, CHAIN = 1_000, 63
+
+
+def fastest(command):
+    """The run of a command, of some, that took least by the clock."""
+    best = min((run(command, b"") for _ in range(RUNS)), key=lambda ran: ran.clock)
+    if best.status != 0:
+        sys.exit(f"{' '.join(command)}: status {best.status}")
+    return best
+
+
+def seconds(program, words, kind, links):
+    """The seconds by the clock of one solution."""
+    more = max(2, WORK // links)
+    once = fastest([program, *words, "1", kind, str(links)])
+    often = fastest([program, *words, str(1 + more), kind, str(links)])
+    return max(often.clock - once.clock, 0) / more
+
+
+def joins(program, kind, links):
+    """How many joins two workers ask for, per link of the system that was made."""
+    words = fastest([program, "joins", "2", kind, str(links)]).output.split()
+    return int(words[words.index(b"joins") - 1]) / max(int(words[0]), 1)
+
+
+def reach():
+    """At or below how many classes a link of the cone goes, on average."""
+    below = [CLASSES] + [min(CHAIN - (index - 1) % CHAIN, CLASSES - index) for index in range(1, CLASSES)]
+    return sum(below) / CLASSES
+
+
+def main():
+    parser = argparse.ArgumentParser()
+    parser.add_argument("--sizes", default="1000,10000,100000,1000000")
+    parser.add_argument("--kinds", default=",".join(KINDS))
+    parser.add_argument("--workers", default="1,2,4,8")
+    parser.add_argument("program", nargs="?", default=built("gu_solve_main"))
+    asked = parser.parse_args()
+    crews = asked.workers.split(",")
+    print(f"{os.cpu_count()} processors; reach of the cone {reach():.1f}")
+    heads = "".join(f"{crew + ' workers':>12}" for crew in crews)
+    print(f"{'kind':8}{'links':>9}{'joins/link':>12}{'worklist':>12}{heads}")
+    for kind in asked.kinds.split(","):
+        for links in map(int, asked.sizes.split(",")):
+            row = [seconds(asked.program, ["close"], kind, links)]
+            row += [seconds(asked.program, ["solve", crew], kind, links) for crew in crews]
+            spent = "".join(f"{time:12.6f}" for time in row)
+            print(f"{kind:8}{links:9}{joins(asked.program, kind, links):12.2f}{spent}", flush=True)
+
+
+if __name__ == "__main__":
+    main()
