@@ -13,4 +13,4 @@ returns-in-Some-control_row c =
     let row = c.in-Some-control_row.row in
     let known = c.in-Some-control_row.ensures in
     let leaf = by_row C c.args.scope.now c.args.instr.now s d.not-Drop d.not-Select d.not-LocalGet d.not-RefIsNull d.not-RefAsNonNull d.not-BrOnNull d.not-BrOnNonNull d.not-BrTable d.not-AnyConvertExtern d.not-ExternConvertAny c.requires in
-    rw (leaf ∙ ap (λ (o : Option Row). type_row C.types o s) (sym known)) c.apply.ensures
+    rw (leaf ∙ ap (λ (o : Option Row). type_row C.types o s) (sym known)) c.apply-in-Some-control_row.ensures
