@@ -1,5 +1,5 @@
 -- The instructions that go by their rows.
-use Rattle.std.proofs.Common.{ℕ, ◌≡◌, ◌≢◌, List, refl, false}
+use Rattle.std.proofs.Common.{ℕ, ◌≡◌, ◌≢◌, refl, false}
 use Rattle.gu_syntax.specs.declared.instr.BranchTable.{BranchTable}
 use Rattle.gu_syntax.specs.declared.instr.Instr.{Instr}
 use Rattle.gu_syntax.specs.declared.instr.Instr.TheVariants as I

@@ -3,7 +3,6 @@ use Rattle.std.proofs.Common.{ℕ, ◌≡◌, ◌≢◌, List, [], ◌∷◌, �
 use Rattle.std.specs.List.{list_all}
 use Rattle.gu_types.specs.declared.types.ValType.{ValType}
 use Rattle.gu_types.specs.declared.types.ValType.TheVariants.{I32}
-use Rattle.gu_syntax.specs.declared.instr.BlockType.{BlockType}
 use Rattle.gu_syntax.specs.declared.instr.Catch.{Catch}
 use Rattle.gu_syntax.specs.declared.instr.Choice.{Choice}
 use Rattle.gu_syntax.specs.declared.instr.Guarded.{Guarded}

@@ -143,7 +143,6 @@ fn select_of<'a>(env: &Env<'a>, types: &[ValType]) -> Option<Row<'a>>
 }
 
 /// The row of an instruction that rests on labels or functions, or of one that rests on none.
-#[inline(always)]
 pub(crate) fn control_row<'a>(env: &Env<'a>, scope: &Scope<'a>, instr: &Instr) -> Option<Row<'a>>
     ensures { option_map row_of result ≡ typing.control_row (context_of env.now) scope.now instr.now }
 {

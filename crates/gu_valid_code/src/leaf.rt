@@ -3,6 +3,7 @@
 ghost use Rattle.std.specs.Prelude.{◌≡◌, [], ◌∷◌, IfOk, Option, option_map, length, slice_get, false};
 ghost use Rattle.std.specs.List.{list_all};
 ghost use Rattle.gu_model.specs.TypingShape.{pop_kind, push, non_null, pushes, type_row};
+ghost use Rattle.gu_model.specs.TypingNumbers.{operator_row};
 ghost use Rattle.gu_model.specs.Typing as typing;
 ghost use Rattle.gu_valid_code.specs.Env.{context_of};
 ghost use Rattle.gu_valid_code.specs.State.{Did, kind_of};
@@ -18,6 +19,7 @@ use crate::references::{abs, abs_or_null};
 use crate::row::Row;
 use crate::scope::{Scope, split_last};
 use crate::state::{Operand, State, non_null, nulls, suits};
+use gu_optab::NumOp;
 use gu_syntax::{BranchTable, Instr};
 use gu_types::Abs;
 use gu_types::ValType::{self, I32, I64};
@@ -300,7 +302,37 @@ fn apply(env: &Env<'_>, state: &mut State, row: Option<Row<'_>>) -> Result<bool,
     }
 }
 
-/// An instruction that holds no code and sets no local. Whether it is typed.
+/// An integer operator.
+#[inline(never)]
+fn operate(env: &Env<'_>, state: &mut State, op: NumOp) -> Result<bool, AllocError>
+    ensures { IfOk result (λ typed. Did typed (type_row env.now.types.now (operator_row op.row) state.old) state.new) }
+{
+    apply(env, state, operator(op))
+}
+
+/// A call of a function.
+#[inline(never)]
+fn call_func(env: &Env<'_>, state: &mut State, func: u32) -> Result<bool, AllocError>
+    ensures { IfOk result (λ typed. Did typed (type_row env.now.types.now (leaf.call (context_of env.now) func) state.old) state.new) }
+{
+    apply(env, state, call(env, func))
+}
+
+/// An instruction that goes by its row.
+#[inline(never)]
+fn by_row(
+    env: &Env<'_>,
+    scope: &Scope<'_>,
+    state: &mut State,
+    instr: &Instr,
+) -> Result<bool, AllocError>
+    ensures { IfOk result (λ typed. Did typed (type_row env.now.types.now (typing.control_row (context_of env.now) scope.now instr.now) state.old) state.new) }
+{
+    apply(env, state, control_row(env, scope, instr))
+}
+
+/// An instruction that holds no code and sets no local. Whether it is typed. It is part of the code
+/// that is called for each block that is open, so what takes room there stands in functions of its own.
 #[inline(always)]
 pub(crate) fn type_leaf(
     env: &Env<'_>,
@@ -317,8 +349,8 @@ pub(crate) fn type_leaf(
         Instr::LocalGet(local) => local_get(scope, state, *local),
         Instr::I32Const(_) => give(state, I32),
         Instr::I64Const(_) => give(state, I64),
-        Instr::Num(op) => apply(env, state, operator(*op)),
-        Instr::Call(func) => apply(env, state, call(env, *func)),
+        Instr::Num(op) => operate(env, state, *op),
+        Instr::Call(func) => call_func(env, state, *func),
         Instr::RefIsNull => is_null(state),
         Instr::RefAsNonNull => as_non_null(state),
         Instr::BrOnNull(label) => br_on_null(env, state, scope.label(*label)),
@@ -332,9 +364,6 @@ pub(crate) fn type_leaf(
         }
         Instr::AnyConvertExtern => convert(env, state, Abs::Extern, Abs::Any),
         Instr::ExternConvertAny => convert(env, state, Abs::Any, Abs::Extern),
-        _ => match control_row(env, scope, instr) {
-            Some(row) => state.apply(env, row),
-            None => Ok(false),
-        },
+        _ => by_row(env, scope, state, instr),
     }
 }

@@ -87,7 +87,6 @@ fn on_memory<'a>(env: &Env<'a>, memory: u32, top: Few, given: Option<ValType>) -
 }
 
 /// The row of an instruction that rests on no operands and no labels.
-#[inline(always)]
 pub(crate) fn plain_row<'a>(env: &Env<'a>, instr: &Instr) -> Option<Row<'a>>
     ensures { option_map row_of result ≡ number_row (context_of env.now) instr.now }
 {
