@@ -7,7 +7,7 @@ ghost use Rattle.gu_syntax.specs.Code.{code_of, ins_of};
 ghost use Rattle.gu_model.specs.Index.{funcs};
 ghost use Rattle.gu_model.specs.ValidContext.{constants, declared, marked, named_by_bodies, named_by_code, named_by_elems, named_by_export, named_by_exports, named_by_ins, named_by_items, named_outside};
 
-use gu_syntax::{Body, Elem, Export, Instr, Items, Kind, Module};
+use gu_syntax::{Body, Choice, Elem, Export, Instr, Items, Kind, Module};
 use gu_types::List;
 use std::alloc::{AllocError, Global};
 
@@ -31,10 +31,11 @@ fn mark_instr(flags: &mut [bool], instr: &Instr)
         Instr::RefFunc(func) => mark(flags, *func),
         Instr::Call(func) => mark(flags, *func),
         Instr::ReturnCall(func) => mark(flags, *func),
-        Instr::Block(_, body) => mark_code(flags, body.code.as_slice()),
-        Instr::Loop(_, body) => mark_code(flags, body.code.as_slice()),
-        Instr::TryTable(_, _, body) => mark_code(flags, body.code.as_slice()),
-        Instr::If(_, yes, no) => {
+        Instr::Block(boxed) => mark_code(flags, boxed.get().body.code.as_slice()),
+        Instr::Loop(boxed) => mark_code(flags, boxed.get().body.code.as_slice()),
+        Instr::TryTable(boxed) => mark_code(flags, boxed.get().body.code.as_slice()),
+        Instr::If(boxed) => {
+            let Choice { yes, no, .. } = boxed.get();
             mark_code(flags, yes.code.as_slice());
             mark_code(flags, no.code.as_slice());
         }

@@ -14,7 +14,7 @@ ghost use Rattle.gu_valid.specs.Facts.{IsFacts};
 use crate::constants::constants;
 use crate::declared::declared_of;
 use crate::kinds::{is_function, is_heap, is_tag, kinds_of};
-use crate::needs::needs_data_count;
+use crate::needs::data_count_holds;
 use crate::spaces::{
     count_memories, elems_of, funcs_of, globals_of, imported_globals, tables_of, tags_of,
 };
@@ -32,8 +32,8 @@ pub(crate) struct Facts<'m> {
     pub(crate) kinds: Vec<&'m SubType>,
     /// How many of its globals are imported.
     pub(crate) imported_globals: u32,
-    /// Whether its code needs the number of data segments.
-    pub(crate) needs_count: bool,
+    /// Whether the number of its data segments is said before its code where the code needs it.
+    pub(crate) count_holds: bool,
     pub(crate) env: Env<'m>,
 }
 
@@ -82,7 +82,7 @@ impl<'m> Facts<'m> {
             module: m,
             kinds: kinds_of(alloc, m.types.groups.as_slice())?,
             imported_globals: imported_globals(m),
-            needs_count: needs_data_count(m, &bodies),
+            count_holds: data_count_holds(m, &bodies),
             env,
         })
     }

@@ -85,7 +85,7 @@ impl Facts<'_> {
         requires { IsFacts self.now }
         ensures { result ≡ (not (needs_count self.now.module.now) || self.now.module.now.has_count) }
     {
-        !self.needs_count || self.module.has_count
+        self.count_holds
     }
 
     /// Whether the start function, if any, is there, and has no parameters and no results.

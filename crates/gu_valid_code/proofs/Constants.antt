@@ -2,7 +2,7 @@
 use Rattle.std.proofs.Common.{ℕ, zero, suc, ◌≡◌, ◌≢◌, ◌<◌, ◌+◌, List, [], ◌∷◌, ◌∙◌, ap, sym, refl, Bool, true, false, ◌&&◌, Option, Some, None, is_some, slice_get, take, drop, length, get_or}
 use Rattle.std.proofs.lemmas.List.{drop_more}
 use Rattle.gu_types.specs.declared.types.ValType.{ValType}
-use Rattle.gu_syntax.specs.declared.instr.Instr.{Instr}
+use Rattle.gu_syntax.specs.declared.instr.Instr.{Instr, more_of-Structured, more_of-Choice, more_of-Guarded}
 use Rattle.gu_syntax.specs.declared.instr.Instr.TheVariants as I
 use Rattle.gu_syntax.specs.declared.instr.Instr as R
 use Rattle.gu_syntax.specs.Code.{Ins, Code, leaf, next, ins_of, code_of}
@@ -21,10 +21,10 @@ rest_of C t c s = is_constant C c && is_some (ends_with C.types (t ∷ []) (type
 -- what may stand in a constant expression holds no code, and sets no local
 pub is_leaf : (C : Context) (i : Instr) → is_constant_ins C (ins_of i) ≡ true → ins_of i ≡ leaf i
 unfolding ins_of
-is_leaf C (R.Block' ty s r) h = absurd (let z : ⊥ = cc in z)
-is_leaf C (R.Loop' ty s r) h = absurd (let z : ⊥ = cc in z)
-is_leaf C (R.If' ty s r s' r') h = absurd (let z : ⊥ = cc in z)
-is_leaf C (R.TryTable' ty cs s r) h = absurd (let z : ⊥ = cc in z)
+is_leaf C (R.Block' boxed (more_of-Structured ty s r rest)) h = absurd (let z : ⊥ = cc in z)
+is_leaf C (R.Loop' boxed (more_of-Structured ty s r rest)) h = absurd (let z : ⊥ = cc in z)
+is_leaf C (R.If' boxed (more_of-Choice ty s r s' r' rest)) h = absurd (let z : ⊥ = cc in z)
+is_leaf C (R.TryTable' boxed (more_of-Guarded ty cs s r rest)) h = absurd (let z : ⊥ = cc in z)
 is_leaf C i h = refl
 
 sets_none : (C : Context) (i : Instr) → is_constant_leaf C i ≡ true → sets_local i ≡ false
@@ -104,4 +104,8 @@ other C (I.ArrayNewFixed x n) p1 p2 p3 p4 p5 p6 p7 p8 p9 p10 p11 p12 p13 p14 = a
 other C I.AnyConvertExtern p1 p2 p3 p4 p5 p6 p7 p8 p9 p10 p11 p12 p13 p14 = absurd (p12 refl)
 other C I.ExternConvertAny p1 p2 p3 p4 p5 p6 p7 p8 p9 p10 p11 p12 p13 p14 = absurd (p13 refl)
 other C (I.GlobalGet x) p1 p2 p3 p4 p5 p6 p7 p8 p9 p10 p11 p12 p13 p14 = absurd (p14 x refl)
+other C (R.Block' boxed (more_of-Structured ty s r rest)) p1 p2 p3 p4 p5 p6 p7 p8 p9 p10 p11 p12 p13 p14 = refl
+other C (R.Loop' boxed (more_of-Structured ty s r rest)) p1 p2 p3 p4 p5 p6 p7 p8 p9 p10 p11 p12 p13 p14 = refl
+other C (R.If' boxed (more_of-Choice ty s r s' r' rest)) p1 p2 p3 p4 p5 p6 p7 p8 p9 p10 p11 p12 p13 p14 = refl
+other C (R.TryTable' boxed (more_of-Guarded ty cs s r rest)) p1 p2 p3 p4 p5 p6 p7 p8 p9 p10 p11 p12 p13 p14 = refl
 other C i p1 p2 p3 p4 p5 p6 p7 p8 p9 p10 p11 p12 p13 p14 = refl

@@ -7,7 +7,7 @@ use Rattle.std.specs.List.{list_all}
 use Rattle.gu_types.specs.declared.types.Abs.TheVariants as A
 use Rattle.gu_types.specs.declared.types.ValType.TheVariants.{I32}
 use Rattle.gu_syntax.specs.declared.instr.Instr as J
-use Rattle.gu_syntax.specs.declared.instr.Instr.{Instr}
+use Rattle.gu_syntax.specs.declared.instr.Instr.{Instr, more_of-Structured, more_of-Choice, more_of-Guarded}
 use Rattle.gu_syntax.specs.declared.instr.Instr.TheVariants as I
 use Rattle.gu_syntax.specs.Code.{Ins, Code, leaf, block, loop, choice, try_table, ins_of}
 use Rattle.gu_model.specs.TypingContext.{Context, Around, ◌>>=◌, type_of_block, abs_or_null}
@@ -133,10 +133,10 @@ module _ (C : Context) (a : Around) where
       let w : pops C.types m.x.0 u >>= pushes m.x.0 ≡ Some e = was_given (suits C.types d.x m.x.1) _ e d.then in
       let f = bound (pops C.types m.x.0 u) (pushes m.x.0) e w in
       some_keeps f.x _ e refl f.then ∙ pops_keep C.types m.x.0 u f.x f.is) m.then
-  leaf_keeps (I.BrTable ls l) s e p h =
-      let b = bound (slice_get a.labels l) _ e h in
-      let d = bound (pops C.types (I32 ∷ []) s) (table_branch C a ls b.x) e b.then in
-      let w : pops C.types b.x d.x >>= stops ≡ Some e = was_given (list_all (takes C a (length b.x) d.x) ls) _ e d.then in
+  leaf_keeps (I.BrTable table) s e p h =
+      let b = bound (slice_get a.labels table.last) _ e h in
+      let d = bound (pops C.types (I32 ∷ []) s) (table_branch C a table.labels b.x) e b.then in
+      let w : pops C.types b.x d.x >>= stops ≡ Some e = was_given (list_all (takes C a (length b.x) d.x) table.labels) _ e d.then in
       let f = bound (pops C.types b.x d.x) stops e w in
       some_keeps f.x _ e refl f.then ∙ pops_keep C.types b.x d.x f.x f.is ∙ pops_keep C.types (I32 ∷ []) s d.x d.is
   leaf_keeps I.AnyConvertExtern s e p h = kind_keeps s e _ (λ k u g. some_keeps u _ e refl (was_given (suits C.types k (abs_or_null A.Extern)) _ e g)) h
@@ -168,10 +168,10 @@ module _ (C : Context) (a : Around) where
 
   sets_of : (i : Instr) → sets_local i ≡ false → sets_ins (ins_of i) ≡ false
   unfolding ins_of
-  sets_of (J.Block' ty s r) h = refl
-  sets_of (J.Loop' ty s r) h = refl
-  sets_of (J.If' ty s r s' r') h = refl
-  sets_of (J.TryTable' ty cs s r) h = refl
+  sets_of (J.Block' boxed (more_of-Structured ty s r rest)) h = refl
+  sets_of (J.Loop' boxed (more_of-Structured ty s r rest)) h = refl
+  sets_of (J.If' boxed (more_of-Choice ty s r s' r' rest)) h = refl
+  sets_of (J.TryTable' boxed (more_of-Guarded ty cs s r rest)) h = refl
   sets_of i h = h
 
   pub other_keeps : (i : Instr) (s e : Shape) → sets_local i ≡ false → type_ins C a (ins_of i) s ≡ Some e → e.set ≡ s.set

@@ -3,12 +3,13 @@ use Rattle.std.proofs.Common.{ℕ, ◌≡◌, ◌≢◌, List, [], ◌∷◌, �
 use Rattle.std.specs.List.{list_all}
 use Rattle.gu_types.specs.declared.types.ValType.{ValType}
 use Rattle.gu_types.specs.declared.types.ValType.TheVariants.{I32}
-use Rattle.gu_syntax.specs.declared.instr.BlockType.{BlockType}
-use Rattle.gu_syntax.specs.declared.instr.Body.{Body}
 use Rattle.gu_syntax.specs.declared.instr.Catch.{Catch}
+use Rattle.gu_syntax.specs.declared.instr.Choice.{Choice}
+use Rattle.gu_syntax.specs.declared.instr.Guarded.{Guarded}
 use Rattle.gu_syntax.specs.declared.instr.Instr.{Instr}
 use Rattle.gu_syntax.specs.declared.instr.Instr.TheVariants as I
 use Rattle.gu_syntax.specs.declared.instr.Instr.TheVariants.{Block, Loop, If, TryTable}
+use Rattle.gu_syntax.specs.declared.instr.Structured.{Structured}
 use Rattle.gu_syntax.specs.Code.{Ins, Code, leaf, ins_of, code_of}
 use Rattle.gu_syntax.proofs.Shapes.{ins_of-Block, ins_of-Loop, ins_of-If, ins_of-TryTable, ins_of-leaf}
 use Rattle.gu_model.specs.Index.{FuncType}
@@ -32,14 +33,14 @@ module _ (C : Context) (a : Around) (s : Shape) (i : Instr) where
   unfolding ins_of
   tee_is x e = of_ins (leaf (I.LocalTee x)) (ap ins_of e)
 
-  pub leaf_is : ((ty : BlockType) (b : Body) → i ≢ Block ty b) → ((ty : BlockType) (b : Body) → i ≢ Loop ty b) → ((ty : BlockType) (b d : Body) → i ≢ If ty b d) → ((ty : BlockType) (cs : List Catch) (b : Body) → i ≢ TryTable ty cs b) → type_ins C a (ins_of i) s ≡ type_leaf C a i s
+  pub leaf_is : ((b : Structured) → i ≢ Block b) → ((b : Structured) → i ≢ Loop b) → ((c : Choice) → i ≢ If c) → ((g : Guarded) → i ≢ TryTable g) → type_ins C a (ins_of i) s ≡ type_leaf C a i s
   leaf_is p q o t = of_ins (leaf i) (ins_of-leaf i p q o t)
 
-  pub block_is : (ty : BlockType) (b : Body) (is : List Instr) → i ≡ Block ty b → is ≡ b.code → type_ins C a (ins_of i) s ≡ nests C a ty false (code_of is) s
-  block_is ty b is e same = of_ins _ (ap ins_of e ∙ ins_of-Block ty b) ∙ ap (λ (js : List Instr). nests C a ty false (code_of js) s) (sym same)
+  pub block_is : (b : Structured) (is : List Instr) → i ≡ Block b → is ≡ b.body.code → type_ins C a (ins_of i) s ≡ nests C a b.ty false (code_of is) s
+  block_is b is e same = of_ins _ (ap ins_of e ∙ ins_of-Block b) ∙ ap (λ (js : List Instr). nests C a b.ty false (code_of js) s) (sym same)
 
-  pub loop_is : (ty : BlockType) (b : Body) (is : List Instr) → i ≡ Loop ty b → is ≡ b.code → type_ins C a (ins_of i) s ≡ nests C a ty true (code_of is) s
-  loop_is ty b is e same = of_ins _ (ap ins_of e ∙ ins_of-Loop ty b) ∙ ap (λ (js : List Instr). nests C a ty true (code_of js) s) (sym same)
+  pub loop_is : (b : Structured) (is : List Instr) → i ≡ Loop b → is ≡ b.body.code → type_ins C a (ins_of i) s ≡ nests C a b.ty true (code_of is) s
+  loop_is b is e same = of_ins _ (ap ins_of e ∙ ins_of-Loop b) ∙ ap (λ (js : List Instr). nests C a b.ty true (code_of js) s) (sym same)
 
   -- both branches of a choice, one after the other
   emptied : (o t : Option Shape) (u : Shape) (p : Shape → Option Shape) (ks : List Kind) → o ≡ p u → elim ks [ [] ↦ o | k ∷ js ↦ None ] ≡ elim ks [ [] ↦ Some u | k ∷ js ↦ None ] >>= p
@@ -62,23 +63,23 @@ module _ (C : Context) (a : Around) (s : Shape) (i : Instr) where
   both c d None = refl
   both c d (Some t) = joined t c (leaves C a t.results t d) (pops C.types (t.params ++ I32 ∷ []) s)
 
-  choice_is : (ty : BlockType) (b d : Body) → i ≡ If ty b d → type_ins C a (ins_of i) s ≡ first_of C a ty (code_of b.code) s >>= second_of C a ty (code_of d.code)
-  choice_is ty b d e = of_ins _ (ap ins_of e ∙ ins_of-If ty b d) ∙ both (code_of b.code) (code_of d.code) (type_of_block C.types ty)
+  choice_is : (c : Choice) → i ≡ If c → type_ins C a (ins_of i) s ≡ first_of C a c.ty (code_of c.yes.code) s >>= second_of C a c.ty (code_of c.no.code)
+  choice_is c e = of_ins _ (ap ins_of e ∙ ins_of-If c) ∙ both (code_of c.yes.code) (code_of c.no.code) (type_of_block C.types c.ty)
 
   -- a choice whose first branch fails
-  pub choice_fails : (ty : BlockType) (b d : Body) (is : List Instr) → i ≡ If ty b d → is ≡ b.code → first_of C a ty (code_of is) s ≡ None → type_ins C a (ins_of i) s ≡ None
-  choice_fails ty b d is e same h =
-      choice_is ty b d e
-      ∙ ap (λ (js : List Instr). first_of C a ty (code_of js) s >>= second_of C a ty (code_of d.code)) (sym same)
-      ∙ ap (λ (o : Option Shape). o >>= second_of C a ty (code_of d.code)) h
+  pub choice_fails : (c : Choice) (is : List Instr) → i ≡ If c → is ≡ c.yes.code → first_of C a c.ty (code_of is) s ≡ None → type_ins C a (ins_of i) s ≡ None
+  choice_fails c is e same h =
+      choice_is c e
+      ∙ ap (λ (js : List Instr). first_of C a c.ty (code_of js) s >>= second_of C a c.ty (code_of c.no.code)) (sym same)
+      ∙ ap (λ (o : Option Shape). o >>= second_of C a c.ty (code_of c.no.code)) h
 
   -- and one whose first branch is typed
-  pub choice_goes : (ty : BlockType) (b d : Body) (is js : List Instr) (u : Shape) → i ≡ If ty b d → is ≡ b.code → js ≡ d.code → first_of C a ty (code_of is) s ≡ Some u → type_ins C a (ins_of i) s ≡ second_of C a ty (code_of js) u
-  choice_goes ty b d is js u e same same' h =
-      choice_is ty b d e
-      ∙ ap (λ (ks : List Instr). first_of C a ty (code_of ks) s >>= second_of C a ty (code_of d.code)) (sym same)
-      ∙ ap (λ (o : Option Shape). o >>= second_of C a ty (code_of d.code)) h
-      ∙ ap (λ (ks : List Instr). second_of C a ty (code_of ks) u) (sym same')
+  pub choice_goes : (c : Choice) (is js : List Instr) (u : Shape) → i ≡ If c → is ≡ c.yes.code → js ≡ c.no.code → first_of C a c.ty (code_of is) s ≡ Some u → type_ins C a (ins_of i) s ≡ second_of C a c.ty (code_of js) u
+  choice_goes c is js u e same same' h =
+      choice_is c e
+      ∙ ap (λ (ks : List Instr). first_of C a c.ty (code_of ks) s >>= second_of C a c.ty (code_of c.no.code)) (sym same)
+      ∙ ap (λ (o : Option Shape). o >>= second_of C a c.ty (code_of c.no.code)) h
+      ∙ ap (λ (ks : List Instr). second_of C a c.ty (code_of ks) u) (sym same')
 
   abbrev never : FuncType → Option Shape
   never t = None
@@ -87,24 +88,24 @@ module _ (C : Context) (a : Around) (s : Shape) (i : Instr) where
   nothing None = refl
   nothing (Some t) = refl
 
-  try_is : (ty : BlockType) (cs : List Catch) (b : Body) (ds : List Catch) → i ≡ TryTable ty cs b → ds ≡ cs → type_ins C a (ins_of i) s ≡ type_of_block C.types ty >>= λ t. given (list_all (type_catch C a) ds) (enters C a t.results t (code_of b.code) s)
-  try_is ty cs b ds e same =
-      of_ins _ (ap ins_of e ∙ ins_of-TryTable ty cs b)
-      ∙ ap (λ (es : List Catch). type_of_block C.types ty >>= λ t. given (list_all (type_catch C a) es) (enters C a t.results t (code_of b.code) s)) (sym same)
+  try_is : (g : Guarded) (ds : List Catch) → i ≡ TryTable g → ds ≡ g.catches → type_ins C a (ins_of i) s ≡ type_of_block C.types g.ty >>= λ t. given (list_all (type_catch C a) ds) (enters C a t.results t (code_of g.body.code) s)
+  try_is g ds e same =
+      of_ins _ (ap ins_of e ∙ ins_of-TryTable g)
+      ∙ ap (λ (es : List Catch). type_of_block C.types g.ty >>= λ t. given (list_all (type_catch C a) es) (enters C a t.results t (code_of g.body.code) s)) (sym same)
 
   -- a try_table of which a catch fails
-  pub try_fails : (ty : BlockType) (cs : List Catch) (b : Body) (ds : List Catch) → i ≡ TryTable ty cs b → ds ≡ cs → list_all (type_catch C a) ds ≡ false → type_ins C a (ins_of i) s ≡ None
-  try_fails ty cs b ds e same h =
-      try_is ty cs b ds e same
-      ∙ ap (λ (v : Bool). type_of_block C.types ty >>= λ t. given v (enters C a t.results t (code_of b.code) s)) h
-      ∙ nothing (type_of_block C.types ty)
+  pub try_fails : (g : Guarded) (ds : List Catch) → i ≡ TryTable g → ds ≡ g.catches → list_all (type_catch C a) ds ≡ false → type_ins C a (ins_of i) s ≡ None
+  try_fails g ds e same h =
+      try_is g ds e same
+      ∙ ap (λ (v : Bool). type_of_block C.types g.ty >>= λ t. given v (enters C a t.results t (code_of g.body.code) s)) h
+      ∙ nothing (type_of_block C.types g.ty)
 
   -- and one of which none does
-  pub try_goes : (ty : BlockType) (cs : List Catch) (b : Body) (ds : List Catch) (is : List Instr) → i ≡ TryTable ty cs b → ds ≡ cs → is ≡ b.code → list_all (type_catch C a) ds ≡ true → type_ins C a (ins_of i) s ≡ nests C a ty false (code_of is) s
-  try_goes ty cs b ds is e same same' h =
-      try_is ty cs b ds e same
-      ∙ ap (λ (v : Bool). type_of_block C.types ty >>= λ t. given v (enters C a t.results t (code_of b.code) s)) h
-      ∙ ap (λ (js : List Instr). nests C a ty false (code_of js) s) (sym same')
+  pub try_goes : (g : Guarded) (ds : List Catch) (is : List Instr) → i ≡ TryTable g → ds ≡ g.catches → is ≡ g.body.code → list_all (type_catch C a) ds ≡ true → type_ins C a (ins_of i) s ≡ nests C a g.ty false (code_of is) s
+  try_goes g ds is e same same' h =
+      try_is g ds e same
+      ∙ ap (λ (v : Bool). type_of_block C.types g.ty >>= λ t. given v (enters C a t.results t (code_of g.body.code) s)) h
+      ∙ ap (λ (js : List Instr). nests C a g.ty false (code_of js) s) (sym same')
 
 -- an instruction that sets no local keeps what there is to be put back
 pub kept : {E : Type 0} (C : Context) (a : Around) (i : Instr) (s e : Shape) (here : List ℕ) (r : Result Bool E) → sets_local i ≡ false → IfOk r (λ b. Did b (type_ins C a (ins_of i) s) e) → IfOk r (λ b. b ≡ true → unset (reverse here) e.set ≡ unset (reverse here) s.set)

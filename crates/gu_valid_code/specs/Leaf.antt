@@ -1,10 +1,11 @@
 -- What the instructions whose results rest on their operands do with operands that were taken.
-use Rattle.std.specs.Prelude.{Bool, true, false, List, [], ◌∷◌, Option}
+use Rattle.std.specs.Prelude.{ℕ, Bool, true, false, List, [], ◌∷◌, Option}
 use Rattle.gu_types.specs.declared.types.ValType.{ValType}
 use Rattle.gu_types.specs.declared.types.ValType.TheVariants.{I32}
 use Rattle.gu_syntax.specs.declared.instr.Instr.{Instr}
 use Rattle.gu_syntax.specs.declared.instr.Instr.TheVariants as I
 use Rattle.gu_model.specs.TypingContext.{Context, ◌>>=◌}
+use Rattle.gu_model.specs.TypingRows.{Row}
 use Rattle.gu_model.specs.TypingShape.{Kind, Shape, non_null, pop_kind, push, pushes}
 use Rattle.gu_model.specs.Typing as typing
 
@@ -25,6 +26,10 @@ null_branch C ts k s = non_null k >>= λ r. typing.null_branch C ts r s
 
 abbrev pub non_null_branch : Context → (List ValType × ValType) → Kind → Shape → Option Shape
 non_null_branch C ends k s = non_null k >>= λ r. typing.non_null_branch C r s ends
+
+-- the row of a call of a function
+abbrev pub call : Context → (func : ℕ) → Option Row
+call C f = typing.func_at C f >>= typing.calls []
 
 -- whether an instruction sets a local
 abbrev pub sets_local : Instr → Bool

@@ -15,6 +15,7 @@ use std::alloc::AllocError;
 
 impl State {
     /// Takes a few operands, the last of which is on top. Whether there are such.
+    #[inline(always)]
     pub(crate) fn pop_few(&mut self, env: &Env<'_>, wants: Few) -> bool
         ensures { Did result (typing.pops env.now.types.now (few_of wants) self.old) self.new }
     {
@@ -52,6 +53,7 @@ impl State {
 
     /// Takes so many operands of a type. Whether there are such. It takes no longer than there are
     /// operands.
+    #[inline(always)]
     fn pop_copies(&mut self, env: &Env<'_>, want: ValType, count: u32) -> bool
         ensures { Did result (typing.pops env.now.types.now (replicate count want) self.old) self.new }
     {
@@ -69,6 +71,7 @@ impl State {
     }
 
     /// Takes the lower operands of a row. Whether there are such.
+    #[inline(always)]
     fn pop_below(&mut self, env: &Env<'_>, wants: Below<'_>) -> bool
         ensures { Did result (typing.pops env.now.types.now (below_of wants.entry) self.old) self.new }
     {
@@ -82,6 +85,7 @@ impl State {
 
     /// Does what follows where the operands of a row were taken. `AllocError` only where memory is
     /// refused.
+    #[inline(always)]
     fn follow(&mut self, then: Then<'_>) -> Result<(), AllocError>
         ensures { OnOk result (follows then.entry self.old ≡ Some self.new) }
     {
@@ -100,6 +104,7 @@ impl State {
 
     /// Does what a row says. Whether its operands are there. `AllocError` only where memory is
     /// refused.
+    #[inline(always)]
     pub(crate) fn apply(&mut self, env: &Env<'_>, row: Row<'_>) -> Result<bool, AllocError>
         ensures { IfOk result (λ typed. Did typed (typing.type_row env.now.types.now (Some (row_of row.entry)) self.old) self.new) }
     {

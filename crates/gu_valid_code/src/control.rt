@@ -5,6 +5,7 @@ ghost use Rattle.gu_model.specs.TypingContext as around;
 ghost use Rattle.gu_model.specs.TypingRows.{leaves};
 ghost use Rattle.gu_model.specs.Typing as typing;
 ghost use Rattle.gu_valid_code.specs.Env.{context_of, function_of};
+ghost use Rattle.gu_valid_code.specs.Leaf as leaf;
 ghost use Rattle.gu_valid_code.specs.Rows.{few_of, below_of, behind, row_of};
 
 use crate::env::{Env, Signature};
@@ -12,7 +13,7 @@ use crate::numbers::plain_row;
 use crate::references::{abs_or_null, idx_or_null};
 use crate::row::{Below, Few, Row, Then, plain};
 use crate::scope::{Scope, split_last};
-use gu_syntax::Instr;
+use gu_syntax::{CastBranch, Instr};
 use gu_types::ValType::{I32, Ref};
 use gu_types::{Abs, RefType, ValType};
 
@@ -59,6 +60,7 @@ pub(crate) fn matches(env: &Env<'_>, below: &[ValType], above: &[ValType]) -> bo
 }
 
 /// A call: it takes the parameters, and what names the callee, and puts the results.
+#[inline(always)]
 fn calls<'a>(signature: Signature<'a>, callee: Few) -> Row<'a>
     ensures { Some (row_of result) ≡ typing.calls (few_of callee) (function_of signature.entry) }
 {
@@ -67,6 +69,14 @@ fn calls<'a>(signature: Signature<'a>, callee: Few) -> Row<'a>
         top: callee,
         then: Then::GivesAll(signature.results),
     }
+}
+
+/// A call of a function.
+#[inline(always)]
+pub(crate) fn call<'a>(env: &Env<'a>, func: u32) -> Option<Row<'a>>
+    ensures { option_map row_of result ≡ leaf.call (context_of env.now) func }
+{
+    Some(calls(env.func(func)?, Few::Zero))
 }
 
 /// A call in place of returning: the results are below those of the function.
@@ -150,26 +160,16 @@ pub(crate) fn control_row<'a>(env: &Env<'a>, scope: &Scope<'a>, instr: &Instr) -
                 then: Then::GivesAll(types),
             })
         }
-        Instr::BrOnCast(label, from, to) => {
-            casts(
-                env,
-                scope.label(*label),
-                (*from, *to),
-                *to,
-                minus(*from, *to),
-            )
+        Instr::BrOnCast(boxed) => {
+            let CastBranch { label, of, to } = *boxed.get();
+            casts(env, scope.label(label), (of, to), to, minus(of, to))
         }
-        Instr::BrOnCastFail(label, from, to) => {
-            casts(
-                env,
-                scope.label(*label),
-                (*from, *to),
-                minus(*from, *to),
-                *to,
-            )
+        Instr::BrOnCastFail(boxed) => {
+            let CastBranch { label, of, to } = *boxed.get();
+            casts(env, scope.label(label), (of, to), minus(of, to), to)
         }
         Instr::Return => Some(leaving(Below::Types(scope.results()), Few::Zero)),
-        Instr::SelectOf(types) => select_of(env, types.as_slice()),
+        Instr::SelectOf(types) => select_of(env, types.get().as_slice()),
         _ => call_row(env, scope, instr),
     }
 }
@@ -179,7 +179,7 @@ fn call_row<'a>(env: &Env<'a>, scope: &Scope<'a>, instr: &Instr) -> Option<Row<'
     ensures { option_map row_of result ≡ typing.call_row (context_of env.now) scope.now instr.now }
 {
     match instr {
-        Instr::Call(func) => Some(calls(env.func(*func)?, Few::Zero)),
+        Instr::Call(func) => call(env, *func),
         Instr::CallIndirect(ty, table) => {
             Some(calls(indirect(env, *ty, *table)?, Few::One(I32)))
         }

@@ -66,6 +66,7 @@ fn top_of_abs(abs: Abs) -> Abs
 
 impl<'a> Env<'a> {
     /// The type with an index, in constant time.
+    #[inline(always)]
     fn type_at(&self, index: u32) -> Option<&'a SubType>
         ensures { option_map (λ ty. ty.now) result ≡ slice_get (types_of self.now.types.now) index }
     {
@@ -171,17 +172,14 @@ impl<'a> Env<'a> {
         }
     }
 
-    /// Whether the first value type is below the second. Of an index of no type, which no valid module
-    /// has, it is what the definition says.
-    #[tactic(auto, using(crate::proofs::Strays::of_val))]
+    /// Whether the first value type is below the second.
+    #[inline(always)]
     pub(crate) fn is_sub_val(&self, below: ValType, above: ValType) -> bool
         ensures { result ≡ is_sub_val self.now.types.now below above }
     {
-        if self.is_valid_val(below) && self.is_valid_val(above) {
-            return self.types.is_sub_val(below, above);
-        }
         match (below, above) {
-            (ValType::Ref(below), ValType::Ref(above)) => self.is_sub_stray(below, above),
+            (ValType::I32, ValType::I32) | (ValType::I64, ValType::I64) => true,
+            (ValType::Ref(below), ValType::Ref(above)) => self.is_sub_ref(below, above),
             _ => false,
         }
     }
@@ -198,10 +196,17 @@ impl<'a> Env<'a> {
             && !self.is_valid_heap(above.heap)
     }
 
-    /// Whether the first reference type is below the second.
+    /// Whether the first reference type is below the second. Of an index of no type, which no valid
+    /// module has, it is what the definition says.
+    #[tactic(auto, using(crate::proofs::Strays::of_val))]
     pub fn is_sub_ref(&self, below: RefType, above: RefType) -> bool
         ensures { result ≡ is_sub_ref self.now.types.now below above }
     {
-        self.is_sub_val(ValType::Ref(below), ValType::Ref(above))
+        if self.is_valid_heap(below.heap) && self.is_valid_heap(above.heap) {
+            return self
+                .types
+                .is_sub_val(ValType::Ref(below), ValType::Ref(above));
+        }
+        self.is_sub_stray(below, above)
     }
 }

@@ -2,20 +2,25 @@
 //! and appendix, Validation Algorithm).
 ghost use Rattle.std.specs.Prelude.{◌≡◌, [], ◌∷◌, IfOk, Option, option_map, length, slice_get, false};
 ghost use Rattle.std.specs.List.{list_all};
-ghost use Rattle.gu_model.specs.TypingShape.{pop_kind, push, non_null, pushes};
+ghost use Rattle.gu_model.specs.TypingShape.{pop_kind, push, non_null, pushes, type_row};
+ghost use Rattle.gu_model.specs.TypingNumbers.{operator_row};
 ghost use Rattle.gu_model.specs.Typing as typing;
 ghost use Rattle.gu_valid_code.specs.Env.{context_of};
 ghost use Rattle.gu_valid_code.specs.State.{Did, kind_of};
 ghost use Rattle.gu_valid_code.specs.Leaf as leaf;
 ghost use Rattle.gu_valid_code.specs.Leaf.{sets_local};
+ghost use Rattle.gu_valid_code.specs.Rows.{row_of};
 ghost use Rattle.gu_valid_code.specs.Scope.{parts_of};
 
-use crate::control::control_row;
+use crate::control::{call, control_row};
 use crate::env::Env;
+use crate::numbers::operator;
 use crate::references::{abs, abs_or_null};
+use crate::row::Row;
 use crate::scope::{Scope, split_last};
 use crate::state::{Operand, State, non_null, nulls, suits};
-use gu_syntax::Instr;
+use gu_optab::NumOp;
+use gu_syntax::{BranchTable, Instr};
 use gu_types::Abs;
 use gu_types::ValType::{self, I32, I64};
 use std::alloc::AllocError;
@@ -264,6 +269,7 @@ fn br_table(
 }
 
 /// A read of a local, which is set.
+#[inline(always)]
 fn local_get(scope: &Scope<'_>, state: &mut State, local: u32) -> Result<bool, AllocError>
     ensures { IfOk result (λ typed. Did typed (typing.type_local_get scope.now local state.old) state.new) }
 {
@@ -276,7 +282,58 @@ fn local_get(scope: &Scope<'_>, state: &mut State, local: u32) -> Result<bool, A
     }
 }
 
-/// An instruction that holds no code and sets no local. Whether it is typed.
+/// Puts an operand of a type.
+#[inline(always)]
+fn give(state: &mut State, given: ValType) -> Result<bool, AllocError>
+    ensures { IfOk result (λ typed. Did typed (pushes (given ∷ []) state.old) state.new) }
+{
+    state.push_val(given)?;
+    Ok(true)
+}
+
+/// Does what a row says. Whether there is one, and its operands are there.
+#[inline(always)]
+fn apply(env: &Env<'_>, state: &mut State, row: Option<Row<'_>>) -> Result<bool, AllocError>
+    ensures { IfOk result (λ typed. Did typed (type_row env.now.types.now (option_map row_of row.entry) state.old) state.new) }
+{
+    match row {
+        Some(row) => state.apply(env, row),
+        None => Ok(false),
+    }
+}
+
+/// An integer operator.
+#[inline(never)]
+fn operate(env: &Env<'_>, state: &mut State, op: NumOp) -> Result<bool, AllocError>
+    ensures { IfOk result (λ typed. Did typed (type_row env.now.types.now (operator_row op.row) state.old) state.new) }
+{
+    apply(env, state, operator(op))
+}
+
+/// A call of a function.
+#[inline(never)]
+fn call_func(env: &Env<'_>, state: &mut State, func: u32) -> Result<bool, AllocError>
+    ensures { IfOk result (λ typed. Did typed (type_row env.now.types.now (leaf.call (context_of env.now) func) state.old) state.new) }
+{
+    apply(env, state, call(env, func))
+}
+
+/// An instruction that goes by its row.
+#[inline(never)]
+fn by_row(
+    env: &Env<'_>,
+    scope: &Scope<'_>,
+    state: &mut State,
+    instr: &Instr,
+) -> Result<bool, AllocError>
+    ensures { IfOk result (λ typed. Did typed (type_row env.now.types.now (typing.control_row (context_of env.now) scope.now instr.now) state.old) state.new) }
+{
+    apply(env, state, control_row(env, scope, instr))
+}
+
+/// An instruction that holds no code and sets no local. Whether it is typed. It is part of the code
+/// that is called for each block that is open, so what takes room there stands in functions of its own.
+#[inline(always)]
 pub(crate) fn type_leaf(
     env: &Env<'_>,
     scope: &Scope<'_>,
@@ -290,6 +347,10 @@ pub(crate) fn type_leaf(
         Instr::Drop => Ok(state.take().is_some()),
         Instr::Select => select(env, state),
         Instr::LocalGet(local) => local_get(scope, state, *local),
+        Instr::I32Const(_) => give(state, I32),
+        Instr::I64Const(_) => give(state, I64),
+        Instr::Num(op) => operate(env, state, *op),
+        Instr::Call(func) => call_func(env, state, *func),
         Instr::RefIsNull => is_null(state),
         Instr::RefAsNonNull => as_non_null(state),
         Instr::BrOnNull(label) => br_on_null(env, state, scope.label(*label)),
@@ -297,12 +358,12 @@ pub(crate) fn type_leaf(
             Some(types) => br_on_non_null(env, state, types),
             None => Ok(false),
         },
-        Instr::BrTable(labels, last) => br_table(env, scope, state, labels.as_slice(), *last),
+        Instr::BrTable(boxed) => {
+            let BranchTable { labels, last } = boxed.get();
+            br_table(env, scope, state, labels.as_slice(), *last)
+        }
         Instr::AnyConvertExtern => convert(env, state, Abs::Extern, Abs::Any),
         Instr::ExternConvertAny => convert(env, state, Abs::Any, Abs::Extern),
-        _ => match control_row(env, scope, instr) {
-            Some(row) => state.apply(env, row),
-            None => Ok(false),
-        },
+        _ => by_row(env, scope, state, instr),
     }
 }

@@ -17,6 +17,7 @@ use gu_types::ValType::{self, I32, I64};
 const OPERATORS: u8 = 66;
 
 /// The value type of a number type.
+#[inline(always)]
 fn number(found: NumType) -> ValType
     ensures { result ≡ typing.number found }
 {
@@ -27,7 +28,8 @@ fn number(found: NumType) -> ValType
 }
 
 /// An integer operator, as its row in the table of operators says.
-fn operator<'a>(op: NumOp) -> Option<Row<'a>>
+#[inline(always)]
+pub(crate) fn operator<'a>(op: NumOp) -> Option<Row<'a>>
     ensures { option_map row_of result ≡ typing.operator_row op.row }
 {
     if op.row >= OPERATORS {
@@ -42,6 +44,7 @@ fn operator<'a>(op: NumOp) -> Option<Row<'a>>
 }
 
 /// An access to a memory, of 2 to the power `width` bytes.
+#[inline(always)]
 fn access<'a>(
     env: &Env<'a>,
     arg: &MemArg,
@@ -58,12 +61,14 @@ fn access<'a>(
     }
 }
 
+#[inline(always)]
 fn load<'a>(env: &Env<'a>, arg: &MemArg, width: u32, loaded: ValType) -> Option<Row<'a>>
     ensures { option_map row_of result ≡ typing.load (context_of env.now) arg.now width loaded }
 {
     access(env, arg, width, Few::One(I32), Some(loaded))
 }
 
+#[inline(always)]
 fn store<'a>(env: &Env<'a>, arg: &MemArg, width: u32, stored: ValType) -> Option<Row<'a>>
     ensures { option_map row_of result ≡ typing.store (context_of env.now) arg.now width stored }
 {

@@ -52,6 +52,7 @@ pub(crate) struct Row<'a> {
 }
 
 /// Takes a few operands, and gives a result or none.
+#[inline(always)]
 pub(crate) fn plain<'a>(top: Few, given: Option<ValType>) -> Row<'a>
     ensures { row_of result ≡ goes (few_of top) (option_to_list given) }
 {

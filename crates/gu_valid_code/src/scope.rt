@@ -46,6 +46,7 @@ impl<'a> Scope<'a> {
     }
 
     /// The types that a label takes, counted outwards from the innermost one.
+    #[inline(always)]
     pub(crate) fn label(&self, index: u32) -> Option<&'a [ValType]>
         ensures { option_map (λ label. label.now) result ≡ slice_get self.now.labels index }
     {
@@ -61,6 +62,7 @@ impl<'a> Scope<'a> {
     }
 
     /// The type of a local.
+    #[inline(always)]
     pub(crate) fn local(&self, index: u32) -> Option<ValType>
         ensures { result ≡ slice_get self.now.locals index }
     {

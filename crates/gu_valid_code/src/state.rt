@@ -53,6 +53,7 @@ impl Model for State {
 }
 
 /// Whether an operand may stand where a type is asked.
+#[inline(always)]
 pub(crate) fn suits(env: &Env<'_>, found: Operand, want: ValType) -> bool
     ensures { result ≡ typing.suits env.now.types.now (kind_of found) want }
 {
@@ -115,6 +116,7 @@ impl State {
     }
 
     /// Takes an operand of any type, or `None` where there is none.
+    #[inline(always)]
     pub(crate) fn take(&mut self) -> Option<Operand>
         ensures { Took (option_map kind_of result) self.old self.new }
     {
@@ -126,6 +128,7 @@ impl State {
     }
 
     /// Takes an operand of a type. Whether there is one.
+    #[inline(always)]
     pub(crate) fn pop(&mut self, env: &Env<'_>, want: ValType) -> bool
         ensures typed { Did result (typing.pop_on env.now.types.now want self.old.types self.old) self.new }
         ensures set { self.new.set ≡ self.old.set }
@@ -145,6 +148,7 @@ impl State {
     }
 
     /// Takes an operand of a type. Whether there is one.
+    #[inline(always)]
     pub(crate) fn pop_one(&mut self, env: &Env<'_>, want: ValType) -> bool
         ensures typed { Did result (typing.pops env.now.types.now (want ∷ []) self.old) self.new }
         ensures set { self.new.set ≡ self.old.set }
@@ -194,6 +198,7 @@ impl State {
     }
 
     /// Whether a local is set, or `None` where there is no such local.
+    #[inline(always)]
     pub(crate) fn local_is_set(&self, local: u32) -> Option<bool>
         ensures { result ≡ slice_get self.now.set local }
     {
@@ -201,6 +206,7 @@ impl State {
     }
 
     /// Puts an operand. `AllocError` only where memory is refused.
+    #[inline(always)]
     pub(crate) fn push(&mut self, found: Operand) -> Result<(), AllocError>
         ensures { OnOk result (typing.push (kind_of found) self.old ≡ Some self.new) }
     {
@@ -209,6 +215,7 @@ impl State {
     }
 
     /// Puts an operand of a type. `AllocError` only where memory is refused.
+    #[inline(always)]
     pub(crate) fn push_val(&mut self, found: ValType) -> Result<(), AllocError>
         ensures pushed { OnOk result (typing.pushes (found ∷ []) self.old ≡ Some self.new) }
         ensures set { OnOk result (self.new.set ≡ self.old.set) }
@@ -265,6 +272,7 @@ impl State {
 
     /// Notes that a local is set, and that it was not before, if so. `AllocError` only where memory
     /// is refused.
+    #[inline(always)]
     pub(crate) fn set_local(&mut self, here: &mut Vec<u32>, local: u32) -> Result<(), AllocError>
         ensures sets { OnOk result (body.sets local self.old ≡ Some self.new) }
         ensures back { OnOk result (unset (reverse here.new.items) self.new.set ≡ unset (reverse here.old.items) self.old.set) }

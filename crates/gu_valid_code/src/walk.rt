@@ -15,7 +15,7 @@ use crate::leaf::type_leaf;
 use crate::references::abs;
 use crate::scope::Scope;
 use crate::state::State;
-use gu_syntax::{BlockType, Catch, Instr};
+use gu_syntax::{BlockType, Catch, Choice, Guarded, Instr, Structured};
 use gu_types::{Abs, ValType};
 use std::alloc::{AllocError, Global};
 use std::slice::from_ref;
@@ -85,6 +85,7 @@ fn all_reach(
 }
 
 /// A write of a local, which is set from then on.
+#[inline(always)]
 fn local_set(
     env: &Env<'_>,
     scope: &Scope<'_>,
@@ -106,6 +107,7 @@ fn local_set(
 }
 
 /// A write of a local that keeps the operand.
+#[inline(always)]
 fn local_tee(
     env: &Env<'_>,
     scope: &Scope<'_>,
@@ -239,6 +241,7 @@ fn check_second<'a>(
 
 /// An instruction that sets no local.
 #[cycle(walk)]
+#[inline(always)]
 fn check_other<'a>(
     alloc: Global,
     env: &Env<'a>,
@@ -251,19 +254,23 @@ fn check_other<'a>(
     ensures scope { IfOk result (λ _. scope.new ≡ scope.old) }
 {
     match instr {
-        Instr::Block(ty, body) => {
+        Instr::Block(boxed) => {
+            let Structured { ty, body } = boxed.get();
             check_nested(alloc, env, scope, state, ty, false, body.code.as_slice())
         }
-        Instr::Loop(ty, body) => {
+        Instr::Loop(boxed) => {
+            let Structured { ty, body } = boxed.get();
             check_nested(alloc, env, scope, state, ty, true, body.code.as_slice())
         }
-        Instr::If(ty, first, second) => {
-            if !check_first(alloc, env, scope, state, ty, first.code.as_slice())? {
+        Instr::If(boxed) => {
+            let Choice { ty, yes, no } = boxed.get();
+            if !check_first(alloc, env, scope, state, ty, yes.code.as_slice())? {
                 return Ok(false);
             }
-            check_second(alloc, env, scope, state, ty, second.code.as_slice())
+            check_second(alloc, env, scope, state, ty, no.code.as_slice())
         }
-        Instr::TryTable(ty, catches, body) => {
+        Instr::TryTable(boxed) => {
+            let Guarded { ty, catches, body } = boxed.get();
             if !all_reach(alloc, env, scope, catches.as_slice())? {
                 return Ok(false);
             }
@@ -275,6 +282,7 @@ fn check_other<'a>(
 
 /// An instruction. The locals that it sets are noted.
 #[cycle(walk)]
+#[inline(always)]
 fn check_instr<'a>(
     alloc: Global,
     env: &Env<'a>,

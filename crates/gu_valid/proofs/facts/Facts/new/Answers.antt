@@ -11,6 +11,6 @@ returns-clause-facts c =
       kinds = c.in_ok-kinds_of.ensures ∙ ap types_in c.as_slice.ensures;
       imported = c.imported_globals.ensures ∙ globals_are m;
       few = omega (arith, c.imported_globals.ensures, globals_are m, few_globals m, c.requires.small.imports);
-      needs = c.needs_data_count.ensures;
+      count = c.data_count_holds.ensures;
       context = c.in_ok-env.ensures;
     }
