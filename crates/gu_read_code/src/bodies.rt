@@ -11,6 +11,9 @@ use std::alloc::Global;
 /// How many blocks may be open at once in an expression.
 const ROOM: u32 = 1000;
 
+/// How many instructions of an expression are made room for at first.
+const FIRST: usize = 14;
+
 /// The expression that the bytes begin with, and the bytes behind it: the body of a function, or a
 /// constant expression.
 ///
@@ -20,7 +23,7 @@ pub fn expression(alloc: Global, bytes: &[u8]) -> Result<(Body, &[u8]), Stop>
     ensures value { Gives result (body_at 1000 bytes.now) }
     ensures inside { left_of result ≤ length bytes.now }
 {
-    let (branch, rest) = read_until(alloc, ROOM, false, bytes)?;
+    let (branch, rest) = read_until(alloc, ROOM, FIRST, false, bytes)?;
     Ok((branch.code, rest))
 }
 

@@ -20,8 +20,11 @@ const END: u8 = 0x0B;
 /// The code between the branches of an `if`.
 const ELSE: u8 = 0x05;
 
-/// How many instructions are made room for at first: a kilobyte.
-const FEW: usize = 14;
+/// How many instructions of a block are made room for at first.
+const FEW: usize = 4;
+
+/// How many instructions are moved to a place of their own size at most: a kilobyte.
+const MOVED: usize = 64;
 
 /// Instructions up to the code that ends them.
 #[derive(Debug, Drop)]
@@ -33,18 +36,19 @@ pub struct Branch {
 }
 
 /// Instructions up to `end`, or up to `else` where it may stand, where so many blocks may be open
-/// inside (5.4.1 Control Instructions).
+/// inside (5.4.1 Control Instructions). Room is made for `first` of them at once.
 #[cycle(nesting)]
 pub fn read_until(
     alloc: Global,
     room: u32,
+    first: usize,
     may_split: bool,
     bytes: &[u8],
 ) -> Result<(Branch, &[u8]), Stop>
     ensures value { (fuel : ℕ) → length bytes.now < fuel → GivesAs branch_of result (until_at fuel room may_split bytes.now) }
     ensures inside { left_of result ≤ length bytes.now }
 {
-    let mut code = new_code(alloc)?;
+    let mut code = new_code(alloc, first)?;
     let mut rest = bytes;
     'code: while let Some((op, more)) = rest.split_first() {
         if *op == END {
@@ -60,14 +64,15 @@ pub fn read_until(
     Err(Stop::at(Asked::Opcode, rest))
 }
 
-/// No instructions, with room for a few.
-fn new_code(alloc: Global) -> Result<List<Instr>, AllocError>
+/// No instructions, with room for so many.
+fn new_code(alloc: Global, room: usize) -> Result<List<Instr>, AllocError>
     ensures { IfOk result (λ code. code ≡ []) }
 {
-    Ok(List::from_vec(Vec::with_capacity(alloc, FEW)?))
+    Ok(List::from_vec(Vec::with_capacity(alloc, room)?))
 }
 
 /// These instructions, in no more memory than they need.
+#[inline(never)]
 fn close_branch(alloc: Global, code: List<Instr>, at_else: bool) -> Branch
     ensures code { result.code.code ≡ code }
     ensures at_else { result.at_else ≡ at_else }
@@ -86,7 +91,7 @@ fn trimmed(alloc: Global, instrs: Vec<Instr>) -> Vec<Instr>
     ensures { result.items ≡ instrs.items }
 {
     let mut items = instrs;
-    if items.len() > FEW {
+    if items.len() > MOVED {
         items.shrink_to_fit();
         return items;
     }
@@ -102,6 +107,7 @@ fn trimmed(alloc: Global, instrs: Vec<Instr>) -> Vec<Instr>
 /// The instruction with this code, where the bytes are those behind the code, and so many blocks may
 /// be open inside. The instruction that opens one too many is refused at its code.
 #[cycle(nesting)]
+#[inline(always)]
 fn read_instr(alloc: Global, room: u32, op: u8, bytes: &[u8]) -> Result<(Instr, &[u8]), Stop>
     ensures value { (fuel : ℕ) → length bytes.now < fuel → GivesAs ins_of result (ins_at (until_at fuel) room (suc (length bytes.now)) op bytes.now) }
     ensures inside { left_of result ≤ length bytes.now + 1 }
@@ -118,6 +124,7 @@ fn read_instr(alloc: Global, room: u32, op: u8, bytes: &[u8]) -> Result<(Instr, 
 
 /// A block.
 #[cycle(nesting)]
+#[inline(never)]
 fn read_block(alloc: Global, room: u32, bytes: &[u8]) -> Result<(Instr, &[u8]), Stop>
     ensures value { (fuel : ℕ) → length bytes.now < fuel → GivesAs ins_of result (ins_at (until_at fuel) room (suc (length bytes.now)) 0x02 bytes.now) }
     ensures inside { left_of result ≤ length bytes.now + 1 }
@@ -127,7 +134,7 @@ fn read_block(alloc: Global, room: u32, bytes: &[u8]) -> Result<(Instr, &[u8]), 
         return Err(too_deep(bytes));
     }
     let (ty, rest) = read_block_type(bytes)?;
-    let (inner, rest) = read_until(alloc, room - 1, false, rest)?;
+    let (inner, rest) = read_until(alloc, room - 1, FEW, false, rest)?;
     let body = inner.code;
     let block = Boxed::new(alloc, Structured { ty, body })?;
     Ok((Instr::Block(block), rest))
@@ -135,6 +142,7 @@ fn read_block(alloc: Global, room: u32, bytes: &[u8]) -> Result<(Instr, &[u8]), 
 
 /// A loop.
 #[cycle(nesting)]
+#[inline(never)]
 fn read_loop(alloc: Global, room: u32, bytes: &[u8]) -> Result<(Instr, &[u8]), Stop>
     ensures value { (fuel : ℕ) → length bytes.now < fuel → GivesAs ins_of result (ins_at (until_at fuel) room (suc (length bytes.now)) 0x03 bytes.now) }
     ensures inside { left_of result ≤ length bytes.now + 1 }
@@ -144,7 +152,7 @@ fn read_loop(alloc: Global, room: u32, bytes: &[u8]) -> Result<(Instr, &[u8]), S
         return Err(too_deep(bytes));
     }
     let (ty, rest) = read_block_type(bytes)?;
-    let (inner, rest) = read_until(alloc, room - 1, false, rest)?;
+    let (inner, rest) = read_until(alloc, room - 1, FEW, false, rest)?;
     let body = inner.code;
     let block = Boxed::new(alloc, Structured { ty, body })?;
     Ok((Instr::Loop(block), rest))
@@ -152,6 +160,7 @@ fn read_loop(alloc: Global, room: u32, bytes: &[u8]) -> Result<(Instr, &[u8]), S
 
 /// An `if`, whose second branch is empty where `else` is missing.
 #[cycle(nesting)]
+#[inline(never)]
 fn read_if(alloc: Global, room: u32, bytes: &[u8]) -> Result<(Instr, &[u8]), Stop>
     ensures value { (fuel : ℕ) → length bytes.now < fuel → GivesAs ins_of result (ins_at (until_at fuel) room (suc (length bytes.now)) 0x04 bytes.now) }
     ensures inside { left_of result ≤ length bytes.now + 1 }
@@ -161,10 +170,10 @@ fn read_if(alloc: Global, room: u32, bytes: &[u8]) -> Result<(Instr, &[u8]), Sto
         return Err(too_deep(bytes));
     }
     let (ty, rest) = read_block_type(bytes)?;
-    let (first, rest) = read_until(alloc, room - 1, true, rest)?;
+    let (first, rest) = read_until(alloc, room - 1, FEW, true, rest)?;
     let yes = first.code;
     if first.at_else {
-        let (second, rest) = read_until(alloc, room - 1, false, rest)?;
+        let (second, rest) = read_until(alloc, room - 1, FEW, false, rest)?;
         let no = second.code;
         let choice = Boxed::new(alloc, Choice { ty, yes, no })?;
         return Ok((Instr::If(choice), rest));
@@ -177,6 +186,7 @@ fn read_if(alloc: Global, room: u32, bytes: &[u8]) -> Result<(Instr, &[u8]), Sto
 
 /// A block whose exceptions catch clauses take.
 #[cycle(nesting)]
+#[inline(never)]
 fn read_try_table(alloc: Global, room: u32, bytes: &[u8]) -> Result<(Instr, &[u8]), Stop>
     ensures value { (fuel : ℕ) → length bytes.now < fuel → GivesAs ins_of result (ins_at (until_at fuel) room (suc (length bytes.now)) 0x1F bytes.now) }
     ensures inside { left_of result ≤ length bytes.now + 1 }
@@ -187,7 +197,7 @@ fn read_try_table(alloc: Global, room: u32, bytes: &[u8]) -> Result<(Instr, &[u8
     }
     let (ty, rest) = read_block_type(bytes)?;
     let (catches, rest) = read_vector::<Catches>(alloc, rest)?;
-    let (inner, rest) = read_until(alloc, room - 1, false, rest)?;
+    let (inner, rest) = read_until(alloc, room - 1, FEW, false, rest)?;
     let body = inner.code;
     let guarded = Boxed::new(alloc, Guarded { ty, catches, body })?;
     Ok((Instr::TryTable(guarded), rest))

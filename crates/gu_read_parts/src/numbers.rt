@@ -9,6 +9,7 @@ use gu_bytes::Cursor;
 
 /// An unsigned integer of 32 bits. It is refused, as what it is asked as, where no front of the bytes
 /// spells one.
+#[inline(always)]
 pub fn read_u32_as(asked: Asked, bytes: &[u8]) -> Result<(u32, &[u8]), Stop>
     ensures value { Gives result (u32_as (item_of asked) bytes.now) }
     ensures inside { left_of result ≤ length bytes.now }
@@ -21,6 +22,7 @@ pub fn read_u32_as(asked: Asked, bytes: &[u8]) -> Result<(u32, &[u8]), Stop>
 }
 
 /// The same of more bytes than one.
+#[inline(never)]
 fn read_long_u32(asked: Asked, bytes: &[u8]) -> Result<(u32, &[u8]), Stop>
     ensures value { Gives result (u32_as (item_of asked) bytes.now) }
     ensures inside { left_of result ≤ length bytes.now }
@@ -34,6 +36,7 @@ fn read_long_u32(asked: Asked, bytes: &[u8]) -> Result<(u32, &[u8]), Stop>
 }
 
 /// An unsigned integer of 32 bits, as a count or an index is (5.5.1 Indices).
+#[inline(always)]
 pub fn read_u32(bytes: &[u8]) -> Result<(u32, &[u8]), Stop>
     ensures value { Gives result (u32_at bytes.now) }
     ensures inside { left_of result ≤ length bytes.now }
@@ -42,6 +45,7 @@ pub fn read_u32(bytes: &[u8]) -> Result<(u32, &[u8]), Stop>
 }
 
 /// A signed integer of 32 bits.
+#[inline(always)]
 pub fn read_s32(bytes: &[u8]) -> Result<(i32, &[u8]), Stop>
     ensures value { Gives result (s32_at bytes.now) }
     ensures inside { left_of result ≤ length bytes.now }
@@ -53,6 +57,7 @@ pub fn read_s32(bytes: &[u8]) -> Result<(i32, &[u8]), Stop>
 }
 
 /// The same of negative integers, and of more bytes than one.
+#[inline(never)]
 fn read_long_s32(bytes: &[u8]) -> Result<(i32, &[u8]), Stop>
     ensures value { Gives result (s32_at bytes.now) }
     ensures inside { left_of result ≤ length bytes.now }
@@ -65,6 +70,7 @@ fn read_long_s32(bytes: &[u8]) -> Result<(i32, &[u8]), Stop>
 }
 
 /// A signed integer of 64 bits.
+#[inline(never)]
 pub fn read_s64(bytes: &[u8]) -> Result<(i64, &[u8]), Stop>
     ensures value { Gives result (s64_at bytes.now) }
     ensures inside { left_of result ≤ length bytes.now }

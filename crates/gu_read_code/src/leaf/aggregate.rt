@@ -52,12 +52,7 @@ pub fn read_structure(
 }
 
 /// Behind FB: arrays.
-fn read_array(
-    alloc: Global,
-    code: u32,
-    left: usize,
-    bytes: &[u8],
-) -> Result<(Instr, &[u8]), Stop>
+fn read_array(alloc: Global, code: u32, left: usize, bytes: &[u8]) -> Result<(Instr, &[u8]), Stop>
     requires structure { Lacks structure_codes code }
     requires place { length bytes.now < left }
     ensures value { Gives result (form_at left (row_or Unknown aggregate_rows code) bytes.now) }
@@ -84,12 +79,7 @@ fn read_array(
 }
 
 /// Behind FB: casts, external and unboxed references.
-fn read_cast(
-    alloc: Global,
-    code: u32,
-    left: usize,
-    bytes: &[u8],
-) -> Result<(Instr, &[u8]), Stop>
+fn read_cast(alloc: Global, code: u32, left: usize, bytes: &[u8]) -> Result<(Instr, &[u8]), Stop>
     requires structure { Lacks structure_codes code }
     requires array { Lacks array_codes code }
     requires place { length bytes.now < left }

@@ -40,6 +40,7 @@ pub fn read_control(alloc: Global, op: u8, bytes: &[u8]) -> Result<(Instr, &[u8]
 }
 
 /// A branch to one of several labels.
+#[inline(never)]
 fn read_branches(alloc: Global, bytes: &[u8]) -> Result<(Instr, &[u8]), Stop>
     ensures value { Gives result (made_at (λ x. I.BrTable (labels_of x)) (both_at (vector_at u32_at) u32_at) bytes.now) }
     ensures inside { left_of result ≤ length bytes.now }

@@ -43,6 +43,7 @@ pub fn read_prefixed(alloc: Global, op: u8, bytes: &[u8]) -> Result<(Instr, &[u8
 }
 
 /// The number behind a prefix, if the bytes begin with one.
+#[inline(always)]
 fn read_number(bytes: &[u8]) -> Option<(u32, &[u8])>
     ensures value { option_map (λ x. (x.0, x.1.now)) result ≡ unsigned_at 32 bytes.now }
     ensures inside { IfSome result (λ x. length x.1.now ≤ length bytes.now) }
@@ -55,8 +56,9 @@ fn read_number(bytes: &[u8]) -> Option<(u32, &[u8])>
 }
 
 /// The operators (5.4.7 Numeric Instructions).
+#[inline(always)]
 #[tactic(auto, using(crate::proofs::Rows::operator_leaf))]
-fn read_operator(op: u8, bytes: &[u8]) -> Result<(Instr, &[u8]), Stop>
+pub fn read_operator(op: u8, bytes: &[u8]) -> Result<(Instr, &[u8]), Stop>
     requires variable { Lacks variable_codes op }
     requires control { Lacks control_codes op }
     requires reference { Lacks reference_codes op }

@@ -13,6 +13,7 @@ use std::alloc::Global;
 
 /// Parametric instructions, and those of references that have one byte (5.4.2 Reference
 /// Instructions, 5.4.3 Parametric Instructions).
+#[inline(never)]
 pub fn read_reference(alloc: Global, op: u8, bytes: &[u8]) -> Result<(Instr, &[u8]), Stop>
     requires variable { Lacks variable_codes op }
     requires control { Lacks control_codes op }
@@ -36,6 +37,7 @@ pub fn read_reference(alloc: Global, op: u8, bytes: &[u8]) -> Result<(Instr, &[u
 }
 
 /// A choice between values of a type.
+#[inline(never)]
 fn read_select_of(alloc: Global, bytes: &[u8]) -> Result<(Instr, &[u8]), Stop>
     ensures value { Gives result (made_at I.SelectOf (vector_at val_at) bytes.now) }
     ensures inside { left_of result ≤ length bytes.now }

@@ -5,12 +5,14 @@ ghost use Rattle.gu_read_parts.specs.Gives.{Gives, left_of};
 ghost use Rattle.gu_syntax.specs.declared.instr.Instr.TheVariants as I;
 
 use crate::leaf::control::read_control;
+use crate::leaf::prefixed::read_operator;
 use gu_read_parts::{Stop, read_s32, read_s64, read_u32};
 use gu_syntax::Instr;
 use std::alloc::Global;
 
-/// Variables, entries of tables, the sizes of memories and constants (5.4.4 Variable Instructions,
-/// 5.4.5 Table Instructions, 5.4.6 Memory Instructions, 5.4.7 Numeric Instructions).
+/// Variables, entries of tables, the sizes of memories, constants, and operators, of which most code
+/// is (5.4.4 Variable Instructions, 5.4.5 Table Instructions, 5.4.6 Memory Instructions, 5.4.7 Numeric
+/// Instructions).
 #[inline(always)]
 pub fn read_variable(alloc: Global, op: u8, bytes: &[u8]) -> Result<(Instr, &[u8]), Stop>
     ensures value { Gives result (leaf_at (suc (length bytes.now)) op bytes.now) }
@@ -29,11 +31,13 @@ pub fn read_variable(alloc: Global, op: u8, bytes: &[u8]) -> Result<(Instr, &[u8
         0x40 => with_index!(Instr::MemoryGrow, bytes),
         0x41 => read_i32_const(bytes),
         0x42 => read_i64_const(bytes),
+        0x45..=0xC4 => read_operator(op, bytes),
         _ => read_control(alloc, op, bytes),
     }
 }
 
 /// A constant of 32 bits.
+#[inline(always)]
 fn read_i32_const(bytes: &[u8]) -> Result<(Instr, &[u8]), Stop>
     ensures value { Gives result (made_at I.I32Const s32_at bytes.now) }
     ensures inside { left_of result ≤ length bytes.now }
