@@ -1,4 +1,5 @@
--- What a system keeps besides its links. No public contract speaks of it.
+-- What a system keeps besides its links, as lists in order. Of these the public contracts speak of the cells that a link
+-- reads whatever cells have, `fixed_reads` and `fixed_once`, and of those that it reads besides, `further_reads`.
 use Rattle.std.specs.Prelude.{ℕ, Bool, false, ◌&&◌, List, [], ◌∷◌, ◌++◌, Option, Some, None, map, flat_map, filter, length, is_some, nat_eq, slice_index, if◌then◌else◌}
 use Rattle.std.specs.List.{list_any}
 use Rattle.gu_types.specs.declared.types.HeapType.TheVariants as H
