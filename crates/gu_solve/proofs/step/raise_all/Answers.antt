@@ -14,6 +14,9 @@ joins-init c = record {
   weight = omega arith;
 }
 
+pub raise-requires-clause-due : goal.raise-requires-clause-due
+raise-requires-clause-due c = c.requires.due c.joins.cell-index (0, Empty) c.joins-test.true
+
 pub joins-preserved : goal.joins-preserved
 joins-preserved c = let inv = c.joins.invariant in let h = c.in_ok-raise.ensures in let s = c.args.s.now in record {
   contents = h.contents;
