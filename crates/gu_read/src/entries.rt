@@ -35,7 +35,7 @@ pub fn read_entries<'a>(
     }
     let (batches, rest) = find_batches(alloc, tys, bytes)?;
     let pieces = read_batches(rt, alloc, batches.as_slice())?;
-    let funcs = join_pieces(alloc, pieces)?;
+    let funcs = join_pieces(alloc, tys.len(), pieces)?;
     Ok((funcs, rest))
 }
 
@@ -44,7 +44,7 @@ fn read_run<'a>(alloc: Global, tys: &[u32], bytes: &'a [u8]) -> Result<(List<Fun
     ensures value { GivesBy AllStandFor result (entries_at 1000 tys.now bytes.now) }
     ensures inside { left_of result ≤ length bytes.now }
 {
-    let mut funcs = List::new(alloc);
+    let mut funcs = no_funcs(alloc, tys.len())?;
     let mut rest = bytes;
     'entries: for ty in tys {
         let (func, behind) = read_func(alloc, *ty, rest)?;
@@ -52,6 +52,13 @@ fn read_run<'a>(alloc: Global, tys: &[u32], bytes: &'a [u8]) -> Result<(List<Fun
         rest = behind;
     }
     Ok((funcs, rest))
+}
+
+/// No functions, with room for so many.
+fn no_funcs(alloc: Global, room: usize) -> Result<List<Func>, AllocError>
+    ensures { IfOk result (λ funcs. funcs ≡ []) }
+{
+    Ok(List::from_vec(Vec::with_capacity(alloc, room)?))
 }
 
 /// The function of a type at the front of the bytes. Where its locals are more than the tree can hold
@@ -147,11 +154,16 @@ fn read_batch(alloc: Global, batch: &Batch<'_>) -> Result<List<Func>, Stop>
     Ok(funcs)
 }
 
-/// The functions of pieces, one behind another, or the failure of the first piece that has one.
-fn join_pieces(alloc: Global, pieces: Vec<Result<List<Func>, Stop>>) -> Result<List<Func>, Stop>
+/// The functions of pieces, one behind another, or the failure of the first piece that has one. Room
+/// is made at once for as many as there are types.
+fn join_pieces(
+    alloc: Global,
+    types: usize,
+    pieces: Vec<Result<List<Func>, Stop>>,
+) -> Result<List<Func>, Stop>
     ensures { Joins pieces.items result }
 {
-    let mut all = Vec::new(alloc);
+    let mut all = Vec::with_capacity(alloc, types)?;
     'pieces: for piece in pieces {
         let funcs = piece?;
         let mut more = funcs.into_vec();

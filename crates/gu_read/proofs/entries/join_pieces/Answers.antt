@@ -4,11 +4,11 @@ use Rattle.gu_read.proofs.Pieces.{joining_begins, joining_on, joining_ends, join
 use Rattle.gu_read.proofs.entries.join_pieces.Goals as goal
 
 pub pieces-init : goal.pieces-init
-pieces-init c = rw c.new-all.ensures.items (joining_begins c.args.pieces.items c.into_iter-piece-iterator.result.rest.items c.into_iter-piece-iterator.ensures.into_iter_gives.0)
+pieces-init c = rw c.in_ok-all.ensures.items (joining_begins c.args.pieces.items c.into_iter-piece-iterator.result.rest.items c.into_iter-piece-iterator.ensures.into_iter_gives.0)
 
 pub returns-in_err-funcs : goal.returns-in_err-funcs
 returns-in_err-funcs c =
-    let p = err_from_is_err_and c.from_residual.result c.from_residual.ensures.1 in
+    let p = err_from_is_err_and c.from_residual-in_err-funcs.result c.from_residual-in_err-funcs.ensures.1 in
     rw (p.1, p.2) (joining_fails c.args.pieces.items c.pieces.all.items c.in_err-funcs.field-0.0 c.in-Some.piece c.pieces.piece-iterator.rest.items c.next.new.self.rest.items c.pieces.invariant c.in-Some.ensures.steps.0 c.in_err-funcs.was)
 
 pub pieces-preserved : goal.pieces-preserved
