@@ -1,5 +1,5 @@
 -- Lists in which each number stands once, and lists that rise.
-use Rattle.std.proofs.Common.{◌≡◌, ◌∙◌, ℕ, zero, suc, ◌+◌, ◌<◌, ◌≤◌, ◌||◌, Bool, true, false, cond, List, [], ◌∷◌, ◌++◌, Some, map, get_or, take, refl, sym, subst, ⊎_elim, arith}
+use Rattle.std.proofs.Common.{◌≡◌, ◌∙◌, ℕ, zero, suc, ◌<◌, ◌≤◌, ◌||◌, Bool, true, false, cond, List, [], ◌∷◌, ◌++◌, Some, map, get_or, take, refl, sym, subst, ⊎_elim, arith}
 use Rattle.std.specs.Prelude.{All, Contains, flat_map, nat_eq, slice_get}
 use Rattle.std.specs.List.{filter as keep}
 use Rattle.std.proofs.lemmas.Bool.{both_ways, cond_both, eq-eqb, ne_eqb, eqb-true, false_from_ne_true, or_cases, or_from, or_parts}

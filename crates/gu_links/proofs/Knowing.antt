@@ -4,15 +4,13 @@ use Rattle.std.specs.Prelude.{Contains}
 use Rattle.std.proofs.lemmas.Bool.{cond-true, cond-false, eq-eqb, ne_eqb, cases_eq}
 use Rattle.std.proofs.lemmas.List.Elements.{All-head, All-nil, All-tail, Contains-append_cases}
 use Rattle.std.proofs.Common.{⊎_elim, inl, inr, ◌⊎◌}
-use Rattle.gu_contents.specs.declared.content.Content.{Content}
 use Rattle.gu_contents.specs.declared.content.Content.TheVariants.{Empty}
 use Rattle.gu_contents.specs.declared.facts.Facts.{Facts}
 use Rattle.gu_links.specs.declared.link.Link.{Link}
 use Rattle.gu_links.specs.Gives.{Contents, reads}
-use Rattle.gu_links.specs.Known.{Item, IsKnown}
+use Rattle.gu_links.specs.Known.{Item, Has, cells_of, IsKnown}
 use Rattle.gu_links.specs.Solutions.{IsOf}
-use Rattle.gu_links.specs.Reading.{Known, known_cells, shown, Agrees, Suffices}
-use Rattle.gu_links.specs.Laws.{IsSameOn}
+use Rattle.gu_links.specs.Laws.{IsSameOn, shown, Suffices}
 use Rattle.gu_links.proofs.Local.{same_on}
 
 -- the element of a list of one
@@ -24,16 +22,16 @@ pub contains_cases : (c : ℕ) (cs : List ℕ) (d : ℕ) → Contains (c ∷ cs)
 contains_cases c cs d h = ⊎_elim (λ (one : Contains (c ∷ []) d). inl (single c d one)) (λ (more : Contains cs d). inr more) (Contains-append_cases (c ∷ []) cs d h)
 
 -- what is shown of a known cell is what it has
-shown_is : (known : Known) (x : Contents) (c : ℕ) → Agrees known x → Contains (known_cells known) c → shown known c ≡ x c
+shown_is : (known : List Item) (x : Contents) (c : ℕ) → Has known x → Contains (cells_of known) c → shown known c ≡ x c
 unfolding shown
 shown_is [] x c h k = absurd (let l = k.1 in omega arith)
 shown_is (p ∷ known) x c h k = ⊎_elim
-    (λ (e : p.0 ≡ c). cond-true (eqb p.0 c) p.1 (shown known c) (eq-eqb p.0 c e) ∙ (sym (All-head (λ (q : ℕ × Content). x q.0 ≡ q.1) p known h.at) ∙ ap x e))
-    (λ (ne : p.0 ≡ c → ⊥). cond-false (eqb p.0 c) p.1 (shown known c) (ne_eqb p.0 c ne) ∙ shown_is known x c (record { at = All-tail (λ (q : ℕ × Content). x q.0 ≡ q.1) p known h.at })
-    (⊎_elim (λ (e : p.0 ≡ c). absurd (ne e)) (λ (more : Contains (known_cells known) c). more) (contains_cases p.0 (known_cells known) c k)))
+    (λ (e : p.0 ≡ c). cond-true (eqb p.0 c) p.1 (shown known c) (eq-eqb p.0 c e) ∙ (sym (All-head (λ (q : Item). x q.0 ≡ q.1) p known h.at) ∙ ap x e))
+    (λ (ne : p.0 ≡ c → ⊥). cond-false (eqb p.0 c) p.1 (shown known c) (ne_eqb p.0 c ne) ∙ shown_is known x c (record { at = All-tail (λ (q : Item). x q.0 ≡ q.1) p known h.at })
+    (⊎_elim (λ (e : p.0 ≡ c). absurd (ne e)) (λ (more : Contains (cells_of known) c). more) (contains_cases p.0 (cells_of known) c k)))
     (cases_eq p.0 c)
 
-pub known_is_enough : (f : Facts) (links : List Link) (link : Link) (known : Known) (x : Contents) → Agrees known x → Suffices f links link known → IsSameOn f links link (shown known) x
+pub known_is_enough : (f : Facts) (links : List Link) (link : Link) (known : List Item) (x : Contents) → Has known x → Suffices f links link known → IsSameOn f links link (shown known) x
 known_is_enough f links link known x h s = same_on f links (shown known) x link (record { at = λ k d lt. shown_is known x (get_or (reads f links link (shown known)) k d) h (s.read k d lt) })
 
 -- where nothing is known yet, what is known is what was asked for

@@ -1,12 +1,12 @@
 -- What holds of all systems of links.
-use Rattle.std.specs.Prelude.{ℕ, ◌<◌, ◌≡◌, ◌↔◌, Contains, List, length, All}
+use Rattle.std.specs.Prelude.{ℕ, ◌<◌, ◌≡◌, ◌↔◌, Contains, List, [], ◌∷◌, length, All, nat_eq, if◌then◌else◌}
 use Rattle.gu_contents.specs.declared.content.Content.{Content}
 use Rattle.gu_contents.specs.declared.content.Content.TheVariants.{Empty}
 use Rattle.gu_contents.specs.declared.facts.Facts.{Facts}
 use Rattle.gu_links.specs.declared.link.Link.{Link}
 use Rattle.gu_links.specs.Gives.{Contents, Asked, gives, reads, IsRoot}
 use Rattle.gu_links.specs.Solutions.{at, AllBelong, IsBelow, IsOpen, IsClosed, Solves, IsUnderAll, Least, IsOf, IsMet, IsSystem}
-use Rattle.gu_links.specs.Reading.{Known, Agrees, Suffices, shown}
+use Rattle.gu_links.specs.Known.{Item, Has, cells_of}
 use Rattle.gu_links.specs.States.{CoreState}
 
 -- contents agree on some cells
@@ -21,10 +21,19 @@ pub record IsSameOn (f : Facts) (links : List Link) (link : Link) (x y : Content
 abbrev pub LinksAreLocal : Type 0
 LinksAreLocal = (f : Facts) (links : List Link) (link : Link) (x y : Contents) → Agree (reads f links link x) x y → IsSameOn f links link x y
 
+-- what is known, with nothing in all other cells
+unfoldable pub shown : List Item → Contents
+shown [] c = Empty
+shown (item ∷ known) c = if nat_eq item.0 c then item.1 else shown known c
+
+-- all cells are known on which a link rests on what is known
+pub record Suffices (f : Facts) (links : List Link) (link : Link) (known : List Item) : Type 0 where
+  pub read : All (Contains (cells_of known)) (reads f links link (shown known))
+
 -- What is known of all cells on which a link rests on what is known tells of all contents that have it: on which cells the
 -- link rests, and what it asks for
 abbrev pub KnownIsEnough : Type 0
-KnownIsEnough = (f : Facts) (links : List Link) (link : Link) (known : Known) (x : Contents) → Agrees known x → Suffices f links link known → IsSameOn f links link (shown known) x
+KnownIsEnough = (f : Facts) (links : List Link) (link : Link) (known : List Item) (x : Contents) → Has known x → Suffices f links link known → IsSameOn f links link (shown known) x
 
 -- a link that is no root asks for nothing, or for nothing to be joined, where there is nothing in each cell on which it
 -- rests

@@ -1,4 +1,4 @@
-use Rattle.std.proofs.Common.{◌≡◌, ◌∷◌, [], ℕ, List, map, subst, refl, ap, ap₂, sym, ◌∙◌}
+use Rattle.std.proofs.Common.{◌≡◌, ◌∷◌, [], ℕ, List, subst, refl, ap, ap₂, sym, ◌∙◌}
 use Rattle.std.specs.Prelude.{All, Contains, IfOk, flat_map}
 use Rattle.std.proofs.lemmas.List.Elements.{All-head, All-tail}
 use Rattle.gu_contents.specs.declared.content.Content.{Content}

@@ -1,4 +1,4 @@
-use Rattle.std.proofs.Common.{◌≡◌, ap, sym, ◌∙◌}
+use Rattle.std.proofs.Common.{ap, sym, ◌∙◌}
 use Rattle.gu_contents.specs.declared.content.Content.{Content}
 use Rattle.gu_links.specs.Over.{callees}
 use Rattle.gu_links.specs.Kept.{callable}

@@ -1,4 +1,4 @@
-use Rattle.std.proofs.Common.{◌≡◌, ℕ, List, subst, sym}
+use Rattle.std.proofs.Common.{◌≡◌, List, subst, sym}
 use Rattle.std.specs.Prelude.{All, Contains, IfOk, flat_map}
 use Rattle.gu_links.specs.declared.reach.Callees.{Callees}
 use Rattle.gu_links.specs.Cells.{out_cells}

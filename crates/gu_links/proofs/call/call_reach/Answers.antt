@@ -1,4 +1,4 @@
-use Rattle.std.proofs.Common.{◌≡◌, ◌++◌, ℕ, Some, List, get_or, ap, sym, ◌∙◌}
+use Rattle.std.proofs.Common.{◌++◌, ℕ, Some, List, get_or, ap, sym, ◌∙◌}
 use Rattle.std.specs.Prelude.{flat_map, slice_index, Contains}
 use Rattle.gu_links.specs.Cells.{out_cells}
 use Rattle.gu_links.specs.Gives.{Asked, call}

@@ -1,4 +1,4 @@
-use Rattle.std.proofs.Common.{◌≡◌, ℕ, take}
+use Rattle.std.proofs.Common.{◌≡◌, take}
 use Rattle.std.specs.Prelude.{All}
 use Rattle.gu_links.specs.Known.{Item}
 use Rattle.gu_links.proofs.known.search.Given as goal

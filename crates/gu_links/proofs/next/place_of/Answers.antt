@@ -1,4 +1,4 @@
-use Rattle.std.proofs.Common.{◌<◌, ℕ, get_or, take, length, ltb, ltb-true, subst, sym, arith, rules}
+use Rattle.std.proofs.Common.{◌<◌, ℕ, get_or, ltb, ltb-true, subst, sym, arith, rules}
 use Rattle.std.proofs.lemmas.List.{get_or-take, length-take-le}
 use Rattle.std.proofs.lemmas.List.Sorted.{IsPartitionPoint-from_clause, IsPartitionedBy-ltb}
 use Rattle.gu_links.proofs.next.place_of.Goals as goal

@@ -1,4 +1,4 @@
-use Rattle.std.proofs.Common.{◌≡◌, ◌∙◌, ◌-◌, ℕ, Some, map, sym, ap, arith}
+use Rattle.std.proofs.Common.{◌≡◌, ◌∙◌, ◌-◌, ℕ, Some, map, sym, ap}
 use Rattle.std.specs.Prelude.{slice_get}
 use Rattle.gu_types.specs.Depth.{types_of}
 use Rattle.gu_rec.specs.Keys.{run}

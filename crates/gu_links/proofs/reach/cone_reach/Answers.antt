@@ -1,8 +1,5 @@
-use Rattle.std.proofs.Common.{subst, sym, ◌∙◌}
 use Rattle.gu_types.specs.declared.types.HeapType.TheVariants as H
-use Rattle.gu_contents.specs.declared.content.Core.{Core}
-use Rattle.gu_contents.specs.declared.content.Core.TheVariants.{Cone}
-use Rattle.gu_contents.specs.Belongs.{CoreBelongs, IsCone}
+use Rattle.gu_contents.specs.Belongs.{IsCone}
 use Rattle.gu_links.proofs.Tables.{head_is_least, cone_as}
 use Rattle.gu_links.proofs.reach.cone_reach.Goals as goal
 

@@ -1,9 +1,8 @@
-use Rattle.std.proofs.Common.{◌≡◌, ◌+◌, ◌-◌, ◌<◌, ◌≤◌, ◌^◌, ℕ, Some, None, length, get_or, refl, sym, ap, ◌∙◌, arith, rules}
-use Rattle.std.specs.Prelude.{slice_index}
+use Rattle.std.proofs.Common.{◌≡◌, ◌+◌, ◌-◌, ◌<◌, ◌^◌, length, refl, sym, ap, ◌∙◌, arith, rules}
 use Rattle.std.proofs.lemmas.List.{get_or_default}
 use Rattle.gu_types.specs.Depth.{types_of}
 use Rattle.gu_contents.specs.Contents.{least_of}
-use Rattle.gu_links.specs.Cells.{own_cells, slots_of, slots_before}
+use Rattle.gu_links.specs.Cells.{slots_before}
 use Rattle.gu_links.proofs.Owning.{slots_long}
 use Rattle.gu_links.proofs.Listed.{slot_of, table_first, above_within, reads_far, above_has, above_is}
 use Rattle.gu_links.proofs.readers.above_slot.Goals as goal

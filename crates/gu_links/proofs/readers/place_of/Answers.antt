@@ -1,9 +1,9 @@
-use Rattle.std.proofs.Common.{◌≡◌, ◌-◌, ◌<◌, ◌≤◌, ℕ, List, Some, None, cond, get_or, sym, ap, ◌∙◌, subst, arith}
+use Rattle.std.proofs.Common.{◌≡◌, ◌-◌, ℕ, List, Some, cond, get_or, sym, ap, ◌∙◌, subst, arith}
 use Rattle.std.specs.Prelude.{nat_eq, slice_index}
 use Rattle.gu_types.specs.Depth.{types_of, depth}
 use Rattle.gu_contents.specs.Contents.{least_of}
 use Rattle.gu_links.specs.declared.readers.Place.TheVariants as P
-use Rattle.gu_links.specs.Listed.{IsPlace, slot_place, type_place}
+use Rattle.gu_links.specs.Listed.{IsPlace}
 use Rattle.gu_links.specs.declared.readers.Place.{Place}
 use Rattle.gu_links.proofs.Listed.{fixed_within, reads_low, slot_itself, result_high, result_owned, result_itself, result_far, steps_deep, steps_other}
 use Rattle.gu_links.proofs.readers.place_of.Goals as goal

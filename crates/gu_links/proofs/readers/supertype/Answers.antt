@@ -1,8 +1,6 @@
-use Rattle.std.proofs.Common.{◌≡◌, ◌+◌, ◌<◌, ◌≤◌, ◌-◌, ℕ, length, refl, Some, None, sym, ap, ◌∙◌, subst, arith}
-use Rattle.gu_types.specs.declared.types.HeapType.TheVariants as H
-use Rattle.gu_types.specs.Depth.{types_of, parent}
+use Rattle.std.proofs.Common.{◌≡◌, ◌+◌, ◌-◌, ℕ, length, refl, Some, sym, ap, ◌∙◌, arith}
+use Rattle.gu_types.specs.Depth.{types_of}
 use Rattle.gu_rec.proofs.Lines.{parent_below}
-use Rattle.gu_rec.specs.Sub.{distance}
 use Rattle.gu_contents.proofs.Heights.{least_is}
 use Rattle.gu_links.proofs.Within.{least_below}
 use Rattle.gu_links.proofs.Listed.{step_up, no_step, no_further, least_least_of}

@@ -1,4 +1,4 @@
-use Rattle.std.proofs.Common.{◌≡◌, ◌&&◌, ◌++◌, ◌∷◌, [], ℕ, Some, List, map, get_or, subst, ap, ap₂, sym, ◌∙◌}
+use Rattle.std.proofs.Common.{◌&&◌, ◌++◌, ◌∷◌, [], ℕ, Some, List, map, get_or, ap, ap₂, sym, ◌∙◌}
 use Rattle.std.specs.Prelude.{Contains}
 use Rattle.gu_contents.specs.declared.content.Content.{Content}
 use Rattle.gu_links.specs.Cells.{slot_cell}

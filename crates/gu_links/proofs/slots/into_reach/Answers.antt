@@ -1,4 +1,4 @@
-use Rattle.std.proofs.Common.{ℕ, List, map, ap, ◌∙◌}
+use Rattle.std.proofs.Common.{ℕ, map, ap, ◌∙◌}
 use Rattle.gu_links.specs.Cells.{slot_cell}
 use Rattle.gu_links.proofs.Walks.{item_in, walked}
 use Rattle.gu_links.proofs.slots.into_reach.Goals as goal

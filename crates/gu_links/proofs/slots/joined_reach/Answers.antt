@@ -1,8 +1,8 @@
-use Rattle.std.proofs.Common.{◌≡◌, ◌&&◌, ◌++◌, ◌∷◌, [], ℕ, Some, List, map, get_or, subst, ap, ap₂, sym, ◌∙◌}
+use Rattle.std.proofs.Common.{◌&&◌, ℕ, Some, List, map, get_or, subst, ap, ap₂, sym, ◌∙◌}
 use Rattle.std.specs.Prelude.{Contains}
 use Rattle.gu_contents.specs.declared.content.Content.{Content}
 use Rattle.gu_links.specs.Cells.{slot_cell}
-use Rattle.gu_links.specs.Gives.{Asked, slot_of}
+use Rattle.gu_links.specs.Gives.{slot_of}
 use Rattle.gu_links.specs.Known.{cells_of}
 use Rattle.gu_links.specs.Over.{has_slot}
 use Rattle.gu_links.specs.Kept.{in_reach}

@@ -1,4 +1,4 @@
-use Rattle.std.proofs.Common.{◌≡◌, ◌&&◌, ℕ, Some, map, take}
+use Rattle.std.proofs.Common.{◌≡◌, ◌&&◌, ℕ, Some, take}
 use Rattle.std.specs.List.{filter}
 use Rattle.gu_contents.specs.Belongs.{Belongs}
 use Rattle.gu_links.specs.Gives.{Contents, joined}

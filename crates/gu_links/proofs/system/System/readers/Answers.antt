@@ -1,6 +1,5 @@
-use Rattle.std.proofs.Common.{◌≡◌, ◌<◌, ◌≤◌, ℕ, List, length, sym, ap, ◌∙◌, subst, arith}
+use Rattle.std.proofs.Common.{◌≡◌, ℕ, List, sym, ap, ◌∙◌, subst, arith}
 use Rattle.std.specs.Prelude.{Contains}
-use Rattle.gu_links.specs.declared.readers.Place.{Place}
 use Rattle.gu_links.specs.Listed.{listed_at}
 use Rattle.gu_links.proofs.Adding.{has_is}
 use Rattle.gu_links.proofs.Ways.{read_low, found_at}
