@@ -10,10 +10,11 @@ seconds by the clock of one solution: by the worklist, and by each number of wor
 of further turns: a run that solves the system more often, less a run that solves it once, so that
 neither the process nor making the system counts.
 
-The worklist tells nobody how often it applies a link, so joins are counted, through the gate of the
-workers. In chains and stars a link asks for one join each time that it is applied and something
-stands in the cell that it reads, so there they are its applications. In the cone each time for one
-join per class that the link reaches: the average is printed as the reach.
+The worklist tells nobody how often it applies a link, so the joins of workers are counted, through
+their gate. In chains and stars a link asks for one join each time that it is applied, so there the
+joins are the applications. In the cone a link that goes through a field asks each time for one join
+per class that it reaches; how many these are on average is printed as the reach. The worklist begins
+with every link, so it applies each once more, at first, than workers do.
 """
 import argparse
 import os
