@@ -23,7 +23,7 @@ import sys
 from measure import built, run
 
 KINDS = ("chains", "stars", "cone")
-# How many links all further turns have together, about, and how many runs the fastest is of.
+# How many joins all further turns ask for together, about, and how many runs the fastest is of.
 WORK = 2_000_000
 RUNS = 3
 # The classes of the cone, and how many stand in a chain below the first one.
@@ -38,9 +38,9 @@ def fastest(command):
     return best
 
 
-def seconds(program, words, kind, links):
-    """The seconds by the clock of one solution."""
-    more = max(2, WORK // links)
+def seconds(program, words, kind, links, asked):
+    """The seconds by the clock of one solution, which asks for so many joins."""
+    more = max(2, int(WORK / asked))
     once = fastest([program, *words, "1", kind, str(links)])
     often = fastest([program, *words, str(1 + more), kind, str(links)])
     return max(often.clock - once.clock, 0) / more
@@ -71,10 +71,11 @@ def main():
     print(f"{'kind':8}{'links':>9}{'joins/link':>12}{'worklist':>12}{heads}")
     for kind in asked.kinds.split(","):
         for links in map(int, asked.sizes.split(",")):
-            row = [seconds(asked.program, ["close"], kind, links)]
-            row += [seconds(asked.program, ["solve", crew], kind, links) for crew in crews]
+            each = joins(asked.program, kind, links)
+            ways = [["close"]] + [["solve", crew] for crew in crews]
+            row = [seconds(asked.program, way, kind, links, links * each) for way in ways]
             spent = "".join(f"{time:12.6f}" for time in row)
-            print(f"{kind:8}{links:9}{joins(asked.program, kind, links):12.2f}{spent}", flush=True)
+            print(f"{kind:8}{links:9}{each:12.2f}{spent}", flush=True)
 
 
 if __name__ == "__main__":
