@@ -1,5 +1,5 @@
 -- What the program can be asked for.
-use Rattle.std.specs.Prelude.{ℕ, ◌≤◌}
+use Rattle.std.specs.Prelude.{◌≤◌}
 use Rattle.gu_solve_main.specs.declared.work.Task.{Task}
 use Rattle.gu_solve_main.specs.declared.work.Task.TheVariants.{Close, Solve, Joins}
 

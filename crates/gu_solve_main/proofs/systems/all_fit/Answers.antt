@@ -1,4 +1,4 @@
-use Rattle.std.proofs.Common.{rules, get_or, arith}
+use Rattle.std.proofs.Common.{rules, get_or}
 use Rattle.std.proofs.lemmas.Option.{slice_get-get_or}
 use Rattle.gu_solve_main.proofs.Fitting.{fit_more}
 use Rattle.gu_solve_main.proofs.systems.all_fit.Goals as goal

@@ -1,4 +1,3 @@
-use Rattle.std.proofs.Common.{rules}
 use Rattle.std.proofs.lemmas.Bool.{ltb-true}
 use Rattle.gu_solve_main.proofs.systems.fits.Goals as goal
 
