@@ -2,8 +2,10 @@
 """Times the worklist and the workers on systems of links.
 
 Usage: bench/solve.py [--sizes LINKS,..] [--kinds NAME,..] [--workers COUNT,..] [PROGRAM]
-       (default: 1000,10000,100000,1000000, chains,stars,cone, 1,2,4,8,
-       crates/gu_solve_main/out/gu_solve_main, as `rt run` in that crate builds it)
+       (default: 1000,10000,100000,1000000, but the cone up to 10000 alone; chains,stars,shallow,cone;
+       1,2,4,8; crates/gu_solve_main/out/gu_solve_main, as `rt run` in that crate builds it)
+
+With the defaults it takes some three minutes. The cone at 100,000 links takes a minute by itself.
 
 Prints, for each kind of system and each size, how many joins per link two workers ask for, and the
 seconds by the clock of one solution: by the worklist, and by each number of workers. A time is that
@@ -13,8 +15,9 @@ neither the process nor making the system counts.
 The worklist tells nobody how often it applies a link, so the joins of workers are counted, through
 their gate. In chains and stars a link asks for one join each time that it is applied, so there the
 joins are the applications. In the cone a link that goes through a field asks each time for one join
-per class that it reaches; how many these are on average is printed as the reach. The worklist begins
-with every link, so it applies each once more, at first, than workers do.
+per class that it reaches; how many these are on average is printed as the reach. In the shallow cone
+each link reaches one class, or one and those directly below it. The worklist begins with every link,
+so it applies each once more, at first, than workers do.
 """
 import argparse
 import os
@@ -22,9 +25,11 @@ import sys
 
 from measure import built, run
 
-KINDS = ("chains", "stars", "cone")
+# The kinds, and up to how many links each is timed where no sizes are asked for.
+KINDS = {"chains": 1_000_000, "stars": 1_000_000, "shallow": 1_000_000, "cone": 10_000}
+SIZES = (1_000, 10_000, 100_000, 1_000_000)
 # How many joins all further turns ask for together, about, and how many runs the fastest is of.
-WORK = 2_000_000
+WORK = 1_000_000
 RUNS = 3
 # The classes of the cone, and how many stand in a chain below the first one.
 CLASSES, CHAIN = 1_000, 63
@@ -40,7 +45,7 @@ def fastest(command):
 
 def seconds(program, words, kind, links, asked):
     """The seconds by the clock of one solution, which asks for so many joins."""
-    more = max(2, int(WORK / asked))
+    more = max(1, int(WORK / asked))
     once = fastest([program, *words, "1", kind, str(links)])
     often = fastest([program, *words, str(1 + more), kind, str(links)])
     return max(often.clock - once.clock, 0) / more
@@ -58,9 +63,14 @@ def reach():
     return sum(below) / CLASSES
 
 
+def sizes(asked, kind):
+    """How many links a kind is timed with: what is asked for, or the defaults that suit the kind."""
+    return map(int, asked.split(",")) if asked else [size for size in SIZES if size <= KINDS[kind]]
+
+
 def main():
     parser = argparse.ArgumentParser()
-    parser.add_argument("--sizes", default="1000,10000,100000,1000000")
+    parser.add_argument("--sizes")
     parser.add_argument("--kinds", default=",".join(KINDS))
     parser.add_argument("--workers", default="1,2,4,8")
     parser.add_argument("program", nargs="?", default=built("gu_solve_main"))
@@ -70,7 +80,7 @@ def main():
     heads = "".join(f"{crew + ' workers':>12}" for crew in crews)
     print(f"{'kind':8}{'links':>9}{'joins/link':>12}{'worklist':>12}{heads}")
     for kind in asked.kinds.split(","):
-        for links in map(int, asked.sizes.split(",")):
+        for links in sizes(asked.sizes, kind):
             each = joins(asked.program, kind, links)
             ways = [["close"]] + [["solve", crew] for crew in crews]
             row = [seconds(asked.program, way, kind, links, links * each) for way in ways]

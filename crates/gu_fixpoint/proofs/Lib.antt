@@ -1,2 +1,3 @@
 pub mod Starting
+pub mod Bounding
 pub mod Running

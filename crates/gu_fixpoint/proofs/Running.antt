@@ -23,6 +23,7 @@ use Rattle.gu_workers.specs.Work.{IsWork}
 use Rattle.gu_workers.proofs.Settling.{settled_contents_are_least}
 use Rattle.gu_fixpoint.specs.Hands.{IsReady, HasRun, Pairs}
 use Rattle.gu_fixpoint.specs.Track.{IsTrack}
+use Rattle.gu_fixpoint.proofs.Bounding.{all_leave_joins, records_bounded}
 
 pub long_map : {A B : Type 0} (g : A → B) (xs : List A) → length (map g xs) ≡ length xs
 long_map g [] = refl
@@ -130,23 +131,32 @@ module _ {W : Type 0} (seat : W → SeatView) (index of : W → ℕ) (done : W �
       none_plus : (a : ℕ) → 0 + a ≡ a
       none_plus a = omega arith
 
+all_belong : (f : Facts) (longs : List ℕ) (xs : List Content) → All (BelongsTo f longs) xs → (c : ℕ) → Belongs f (get_or xs c Empty)
+all_belong f longs [] h c = tt
+all_belong f longs (x ∷ xs) h zero = (All-head (BelongsTo f longs) x xs h).0
+all_belong f longs (x ∷ xs) h (suc c) = all_belong f longs xs (All-tail (BelongsTo f longs) x xs h) c
+
 -- what closing gives is a track, and the least solution
 module _ (f : Facts) (longs : List ℕ) (links : List Link) (n : ℕ) (z : List Content) (records : List (List Entry)) where
-  pub is_track : length records ≡ n → ((j : ℕ) (entries : List Entry) → slice_get records j ≡ Some entries → IsWork f links j n entries) → RecordsBelong f longs records → CoversAll f records (at z) → Settled records (at z)
+  pub is_track : All (BelongsTo f longs) z → length records ≡ n → ((j : ℕ) (entries : List Entry) → slice_get records j ≡ Some entries → IsWork f links j n entries) → RecordsBelong f longs records → CoversAll f records (at z) → Settled records (at z)
       → IsTrack f longs links n (at z) records
-  is_track long works belong covers settled = record { long = long; works = works; belong = belong; covers = covers; settled = settled }
+  is_track are long works belong covers settled =
+      let joins = all_leave_joins f links n records works in record {
+        long = long;
+        works = works;
+        bounded = records_bounded f longs (at z) (record { at = all_belong f longs z are }) records belong covers joins;
+        joins = joins;
+        belong = belong;
+        covers = covers;
+        settled = settled;
+      }
 
   pub track_is_least : (ceilings : List Content) → 0 < n → Least f links (at ceilings) → ((c : ℕ) → AtMost f (at z c) (at ceilings c)) → All (BelongsTo f longs) z → IsTrack f longs links n (at z) records → Least f links (at z)
   track_is_least ceilings some least capped belong t =
       settled_contents_are_least f (lattice f) (answers_belong f) longs links (at z) records
-      (record { belong = record { at = all_belong z belong }; all_belong = t.belong; covers = t.covers; settled = t.settled })
+      (record { belong = record { at = all_belong f longs z belong }; all_belong = t.belong; covers = t.covers; settled = t.settled })
       (record {
         some_worker = (let e = t.long in omega arith);
         works = λ index entries e. subst (λ (m : ℕ). IsWork f links index m entries) (sym t.long) (t.works index entries e);
       })
       (at ceilings) least (record { at = capped })
-    where
-      all_belong : (xs : List Content) → All (BelongsTo f longs) xs → (c : ℕ) → Belongs f (get_or xs c Empty)
-      all_belong [] h c = tt
-      all_belong (x ∷ xs) h zero = (All-head (BelongsTo f longs) x xs h).0
-      all_belong (x ∷ xs) h (suc c) = all_belong xs (All-tail (BelongsTo f longs) x xs h) c

@@ -19,6 +19,7 @@ use std::thread::Threads;
 fn alone(alloc: Global, s: &System<'_>) -> Result<List<Content>, AllocError>
     requires system { IsSystem s.now.facts.now s.now.longs s.now.cells s.now.links }
     ensures length { IfOk result (λ r. length r ≡ s.now.cells) }
+    ensures are_of { IfOk result (λ r. All (IsOf s.now.facts.now s.now.longs) r) }
     ensures least { IfOk result (λ r. Least s.now.facts.now s.now.links (at r)) }
 {
     let start = Vec::from_elem(alloc, Content::Empty, s.cells)?;
@@ -40,6 +41,7 @@ fn together<N: Ceilings + Send + Sync, G: Gate>(
     requires length { length N.ceilings ≡ s.now.cells }
     requires ceilings { Least N.facts s.now.links (at N.ceilings) }
     ensures length { IfOk result (λ r. length r.0 ≡ s.now.cells) }
+    ensures are_of { IfOk result (λ r. All (IsOf N.facts N.longs) r.0) }
     ensures least { IfOk result (λ r. Least N.facts s.now.links (at r.0)) }
     ensures track { IfOk result (λ r. IsTrack N.facts N.longs s.now.links workers (at r.0) r.1) }
 {
@@ -67,6 +69,7 @@ pub fn solve<G: Gate>(
     requires system { IsSystem s.now.facts.now s.now.longs s.now.cells s.now.links }
     requires workers { (1 ≤ workers) × (workers ≤ 64) }
     ensures length { IfOk result (λ r. length r.0 ≡ s.now.cells) }
+    ensures are_of { IfOk result (λ r. All (IsOf s.now.facts.now s.now.longs) r.0) }
     ensures least { IfOk result (λ r. Least s.now.facts.now s.now.links (at r.0)) }
     ensures track { IfOk result (λ r. MatchOption r.1 (workers ≡ 1) (λ track. (1 < workers) × IsTrack s.now.facts.now s.now.longs s.now.links workers (at r.0) track)) }
 {

@@ -39,6 +39,14 @@ fn above(index: u32) -> Option<u32> {
     }
 }
 
+/// Whether a class stands directly below the class with an index, where there are so many.
+pub fn has_below(index: u32, count: u32) -> bool {
+    match index.checked_add(1) {
+        None => false,
+        Some(next) => next < count && above(next) == Some(index),
+    }
+}
+
 /// The class with an index.
 fn class(alloc: Global, index: u32) -> Result<SubType, AllocError> {
     let supers = match above(index) {

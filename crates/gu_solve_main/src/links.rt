@@ -1,10 +1,11 @@
 //! The links of each kind of system.
 ghost use Rattle.std.specs.Prelude.{◌≡◌, ◌<◌, ◌≤◌, ◌%◌, ◌≢◌};
 
+use crate::classes::has_below;
 use crate::work::Kind;
-use gu_contents::Content;
+use gu_contents::{Content, Core};
 use gu_links::Link;
-use gu_types::{Storage, ValType};
+use gu_types::{HeapType, Storage, ValType};
 use std::alloc::{AllocError, Global};
 
 /// How many classes there are.
@@ -40,7 +41,7 @@ pub fn plan_of(alloc: Global, kind: Kind, count: u32) -> Result<Plan, AllocError
             cells: count as usize,
             classes: 0,
         }),
-        Kind::Cone => cone(alloc, count / 4),
+        Kind::Cone | Kind::Shallow => fields(alloc, kind, count / 4),
     }
 }
 
@@ -96,13 +97,24 @@ fn site_of(number: u32) -> Site {
     }
 }
 
-/// So many places where fields are written and read, through references to any class.
-fn cone(alloc: Global, sites: u32) -> Result<Plan, AllocError> {
+/// What is known of the objects at a place with a number: nothing, or that they are of the place's
+/// class, or at every other place of it or of a class directly below it, if there is one.
+fn objects(kind: Kind, number: u32, class: u32) -> Content {
+    if kind == Kind::Cone {
+        return Content::Top;
+    }
+    let deep = number % 2 == 1 && has_below(class, CLASSES);
+    Content::Ref(false, Core::Cone(HeapType::Idx(class), u32::from(deep)))
+}
+
+/// So many places where fields are written and read.
+fn fields(alloc: Global, kind: Kind, sites: u32) -> Result<Plan, AllocError> {
     let mut links = Vec::new(alloc);
     for number in 0..sites {
+        let site = site_of(number);
         links.push(Link::Root {
-            give: Content::Top,
-            to: site_of(number).object,
+            give: objects(kind, number, site.class),
+            to: site.object,
         })?;
     }
     for number in 0..sites {

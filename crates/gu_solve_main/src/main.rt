@@ -9,7 +9,9 @@
 //!
 //! - `chains`: a number flows through 1,000 cells, one after another, in each of many chains;
 //! - `stars`: a number flows from one cell into 999 others, in each of many stars;
-//! - `cone`: fields are written and read through references to any of 1,000 classes, at 64 levels.
+//! - `cone`: fields are written and read through references to any of 1,000 classes, at 64 levels;
+//! - `shallow`: the same, where each reference is to objects of one class, or of one class and those
+//!   directly below it.
 //!
 //! A system is solved once at least. A line says how many links and cells it has, how many of the
 //! cells have a content in the end, and how many joins were counted. What is refused is said on the

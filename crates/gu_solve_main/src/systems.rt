@@ -1,12 +1,13 @@
 //! Whether links make a system.
 ghost use Rattle.std.specs.Prelude.{◌≡◌, ◌<◌, ℕ, List, true, All, IfOk};
-ghost use Rattle.gu_contents.specs.declared.facts.Facts.{Facts as AllFacts};
+ghost use Rattle.gu_contents.specs.Belongs.{IsCone};
+ghost use Rattle.gu_types.specs.declared.types.HeapType.TheVariants.{Idx};
 ghost use Rattle.gu_links.specs.Cells.{slots_of};
 ghost use Rattle.gu_links.specs.Solutions.{Fits, IsOf, IsSystem, IsType};
 
-use gu_contents::{Content, Facts};
+use gu_contents::{Content, Core, Facts};
 use gu_links::{Link, Numbering};
-use gu_types::Comp;
+use gu_types::{Comp, HeapType};
 use std::alloc::{AllocError, Global};
 
 /// Whether links of the kinds that this program makes are a system of so many cells. `AllocError`
@@ -43,7 +44,7 @@ fn fits(facts: &Facts, cells: usize, link: &Link) -> bool
     ensures { result ≡ true → (longs : List ℕ) → Fits facts.now longs cells link.now }
 {
     match link {
-        Link::Root { give, to } => is_plain(*give) && *to < cells,
+        Link::Root { give, to } => is_given(facts, *give) && *to < cells,
         Link::Copy { from, to } => *from < cells && *to < cells,
         Link::SlotGet {
             object,
@@ -62,11 +63,28 @@ fn fits(facts: &Facts, cells: usize, link: &Link) -> bool
     }
 }
 
-/// Whether a content is one number of 32 bits or all values, which any facts have.
-fn is_plain(give: Content) -> bool
-    ensures { result ≡ true → (f : AllFacts) (longs : List ℕ) → IsOf f longs give }
+/// Whether a content is one number of 32 bits, all values, or references to a cone of the types.
+fn is_given(facts: &Facts, give: Content) -> bool
+    ensures { result ≡ true → (longs : List ℕ) → IsOf facts.now longs give }
 {
-    matches!(give, Content::I32(_) | Content::Top)
+    match give {
+        Content::I32(_) | Content::Top => true,
+        Content::Ref(false, Core::Cone(HeapType::Idx(head), depth)) => is_cone(facts, head, depth),
+        _ => false,
+    }
+}
+
+/// Whether an index is the least of its type, and classes stand so many edges below that.
+fn is_cone(facts: &Facts, head: u32, depth: u32) -> bool
+    ensures { result ≡ true → IsCone facts.now (Idx head) depth }
+{
+    if facts.types.get(head).is_none() {
+        return false;
+    }
+    if facts.types.canon(head) != head {
+        return false;
+    }
+    depth <= facts.types.height(HeapType::Idx(head))
 }
 
 /// Whether there is a structure type with an index that has a field.

@@ -9,8 +9,10 @@ pub enum Kind {
     Chains,
     /// Cells from which others are filled.
     Stars,
-    /// Fields of classes.
+    /// Fields of classes, through references to objects of any class.
     Cone,
+    /// Fields of classes, through references to objects of one class or of it and its subclasses.
+    Shallow,
 }
 
 /// How it is solved.
@@ -74,6 +76,7 @@ fn kind_of(name: &str) -> Option<Kind> {
         "chains" => Some(Kind::Chains),
         "stars" => Some(Kind::Stars),
         "cone" => Some(Kind::Cone),
+        "shallow" => Some(Kind::Shallow),
         _ => None,
     }
 }

@@ -16,11 +16,11 @@ use Rattle.gu_workers.proofs.Records.{makes_join}
 use Rattle.gu_workers.proofs.Room.{join_room, raise_room, weight_less, weight_same}
 
 module _ (f : Facts) (longs : List ℕ) (links : List Link) (cell : ℕ) (asked before after : Content) (old new : List Entry) (a : Appends cell asked before after old new) where
-  pub join_adds : Adds (AreOf ((cell, asked) ∷ [])) old new
-  join_adds = record {
+  pub join_adds : after ≡ join f before asked → Adds (AreOf f ((cell, asked) ∷ [])) old new
+  join_adds is = record {
     more = Join cell asked before after ∷ reads_of cell a.found;
     added = a.appended;
-    holds = are_of_more ((cell, asked) ∷ []) (Join cell asked before after) (reads_of cell a.found) (0, omega arith, refl) (reads_are_of ((cell, asked) ∷ []) cell a.found);
+    holds = are_of_more f ((cell, asked) ∷ []) (Join cell asked before after) (reads_of cell a.found) ((0, omega arith, refl), is) (reads_are_of f ((cell, asked) ∷ []) cell a.found);
   }
 
   pub join_makes : (Q : List ℕ) → after ≡ join f before asked
@@ -28,7 +28,7 @@ module _ (f : Facts) (longs : List ℕ) (links : List Link) (cell : ℕ) (asked 
   join_makes Q is left = record {
     more = Join cell asked before after ∷ reads_of cell a.found;
     added = a.appended;
-    holds = makes_join f links Q cell asked before after (reads_of cell a.found) (reads_are_of [] cell a.found) is left;
+    holds = makes_join f links Q cell asked before after (reads_of cell a.found) (reads_are_of f [] cell a.found) is left;
   }
 
   pub join_weighs : (cells n p : ℕ) → RecordBelongs f longs new → weight f cells n new p ≤ weight f cells n old p

@@ -92,34 +92,34 @@ module _ (f : Facts) (longs : List ℕ) (ceilings : List Content) where
       at_place (k ∷ ks) (suc i) d lt = at_place ks i d (omega arith)
 
 -- the reads of all that is known
-pub known_none : (old : List Entry) → Adds (AreKnown []) old old
-known_none old = record { more = []; added = refl; holds = record { reads_alone = are_of_none []; shown = All-nil (λ (k : Item). Contains [] (Read k.0 k.1)) } }
+pub known_none : (f : Facts) (old : List Entry) → Adds (AreKnown f []) old old
+known_none f old = record { more = []; added = refl; holds = record { reads_alone = are_of_none f []; shown = All-nil (λ (k : Item). Contains [] (Read k.0 k.1)) } }
 
 later : (e : Entry) (entries : List Entry) (d : Entry) → Contains entries d → Contains (e ∷ entries) d
 later e entries d at = Contains-append_right (e ∷ []) entries d at
 
-pub known_more : (known : List Item) (c : ℕ) (a : Content) (old mid new : List Entry) → Adds (AreKnown known) old mid → new ≡ Read c a ∷ mid → Adds (AreKnown (known ++ (c, a) ∷ [])) old new
-known_more known c a old mid new h e =
+pub known_more : (f : Facts) (known : List Item) (c : ℕ) (a : Content) (old mid new : List Entry) → Adds (AreKnown f known) old mid → new ≡ Read c a ∷ mid → Adds (AreKnown f (known ++ (c, a) ∷ [])) old new
+known_more f known c a old mid new h e =
     let more = h.more in record {
       more = Read c a ∷ more;
       added = e ∙ ap (λ (es : List Entry). Read c a ∷ es) h.added;
       holds = record {
-        reads_alone = are_of_more [] (Read c a) more tt h.holds.reads_alone;
+        reads_alone = are_of_more f [] (Read c a) more tt h.holds.reads_alone;
         shown = All-push (λ (k : Item). Contains (Read c a ∷ more) (Read k.0 k.1)) known (c, a)
             (All-weaker (λ (k : Item). Contains more (Read k.0 k.1)) (λ (k : Item). Contains (Read c a ∷ more) (Read k.0 k.1)) (λ k at. later (Read c a) more (Read k.0 k.1) at) known h.holds.shown)
             (0, omega arith, refl);
       };
     }
 
-pub reads_of_known : (known : List Item) (old new : List Entry) → Adds (AreKnown known) old new → Adds (AreOf []) old new
-reads_of_known known old new h = record { more = h.more; added = h.added; holds = h.holds.reads_alone }
+pub reads_of_known : (f : Facts) (known : List Item) (old new : List Entry) → Adds (AreKnown f known) old new → Adds (AreOf f []) old new
+reads_of_known f known old new h = record { more = h.more; added = h.added; holds = h.holds.reads_alone }
 
-pub reads_and_one : (c : ℕ) (a : Content) (old mid new : List Entry) → Adds (AreOf []) old mid → new ≡ Read c a ∷ mid → Adds (AreOf []) old new
-reads_and_one c a old mid new h e = record { more = Read c a ∷ h.more; added = e ∙ ap (λ (es : List Entry). Read c a ∷ es) h.added; holds = are_of_more [] (Read c a) h.more tt h.holds }
+pub reads_and_one : (f : Facts) (c : ℕ) (a : Content) (old mid new : List Entry) → Adds (AreOf f []) old mid → new ≡ Read c a ∷ mid → Adds (AreOf f []) old new
+reads_and_one f c a old mid new h e = record { more = Read c a ∷ h.more; added = e ∙ ap (λ (es : List Entry). Read c a ∷ es) h.added; holds = are_of_more f [] (Read c a) h.more tt h.holds }
 
 -- what a link asks for on what was read
 module _ (f : Facts) (longs : List ℕ) (ceilings : List Content) (count : ℕ) (links : List Link) (k : ℕ) (known : List Item) (held : IsHeld f longs ceilings known) where
-  were_read : (entries : List Entry) → IsEnough f links (link_at links k) known → AreKnown known entries → WereRead entries (reads f links (link_at links k) held.contents) held.contents
+  were_read : (entries : List Entry) → IsEnough f links (link_at links k) known → AreKnown f known entries → WereRead entries (reads f links (link_at links k) held.contents) held.contents
   were_read entries enough are = record {
     shown = All-weaker (Contains (cells_of known)) (λ c. Contains entries (Read c (held.contents c))) (λ c at. All-contains (λ d. Contains entries (Read d (held.contents d))) (cells_of known) c all at)
         (reads f links (link_at links k) held.contents) (enough.all held.contents held.has);
@@ -129,7 +129,7 @@ module _ (f : Facts) (longs : List ℕ) (ceilings : List Content) (count : ℕ) 
       all = All-map (λ c. Contains entries (Read c (held.contents c))) (λ (i : Item). i.0) known
           (λ i d lt. subst (λ (a : Content). Contains entries (Read (get_or known i d).0 a)) (sym (held.has.at i d lt)) (are.shown i d lt))
 
-  pub asks_of : (old new : List Entry) (asked : List Asked) → IsEnough f links (link_at links k) known → Adds (AreKnown known) old new → asked ≡ gives f links (link_at links k) held.contents → Adds (Asks f links (link_at links k) asked) old new
+  pub asks_of : (old new : List Entry) (asked : List Asked) → IsEnough f links (link_at links k) known → Adds (AreKnown f known) old new → asked ≡ gives f links (link_at links k) held.contents → Adds (Asks f links (link_at links k) asked) old new
   asks_of old new asked enough h is = record {
     more = h.more;
     added = h.added;

@@ -16,10 +16,10 @@ use Rattle.gu_links.specs.declared.link.Link.TheVariants.{Root}
 use Rattle.gu_links.specs.Gives.{Asked, gives, reads}
 use Rattle.gu_links.specs.Solutions.{IsReader}
 use Rattle.gu_links.specs.Known.{link_at}
-use Rattle.gu_workers.specs.Work.{WasJoined, IsServed, IsAskedFor, AsksGiven, IsWork}
+use Rattle.gu_workers.specs.Work.{WasJoined, IsServed, IsAskedFor, LeavesJoin, AsksGiven, IsWork}
 use Rattle.gu_worklist.specs.Left.{Keeps}
 use Rattle.gu_workers.specs.Steps.{Adds, AreOf, Asks, LeavesReaders, Makes, Serves, Starts}
-use Rattle.gu_workers.proofs.Splits.{split, no_join, asked_is, are_of_wider, are_of_reads, are_of_both, are_of_none, are_of_more, read_behind, joined_in_front, joined_behind, all_joined_in_front, all_joined_behind, served_in_front, served_behind, asked_for_in_front}
+use Rattle.gu_workers.proofs.Splits.{split, no_join, asked_is, leave_joins, are_of_wider, are_of_reads, are_of_both, are_of_none, are_of_more, read_behind, joined_in_front, joined_behind, all_joined_in_front, all_joined_behind, served_in_front, served_behind, asked_for_in_front}
 
 -- a record with entries in front, twice
 pub adds_twice : (P Q R : List Entry → Type 0) (a b c : List Entry) → ((xs ys : List Entry) → Q xs → P ys → R (xs ++ ys)) → Adds P a b → Adds Q b c → Adds R a c
@@ -47,13 +47,14 @@ module _ (f : Facts) (links : List Link) where
         subst (λ (es : List Entry). IsAskedFor f links es (cell, asked)) (sym t.2) (asked_for_in_front t.0 ys f links (cell, asked) (p.asks newer t.0 cell asked before after t.1)))
         (λ (t : (front : List Entry) × (newer ≡ xs ++ front) × (ys ≡ front ++ Join cell asked before after ∷ older)). q.asks t.0 older cell asked before after t.2)
         (split xs ys newer older (Join cell asked before after) is);
+    joins = All-append (LeavesJoin f) xs ys p.joins q.joins;
   }
 
-  pub asks_reads : (xs : List Entry) → AreOf [] xs → AsksGiven f links xs
-  asks_reads xs h = record { asks = λ newer older cell asked before after is. absurd (no_join xs newer older cell asked before after h is) }
+  pub asks_reads : (xs : List Entry) → AreOf f [] xs → AsksGiven f links xs
+  asks_reads xs h = record { asks = λ newer older cell asked before after is. absurd (no_join f xs newer older cell asked before after h is); joins = leave_joins f [] xs h }
 
   -- joins that a link asks for on what was read before
-  pub asks_made : (link : Link) (asks : List Asked) (js rs : List Entry) → Contains links link → AreOf asks js → Asks f links link asks rs → AsksGiven f links (js ++ rs)
+  pub asks_made : (link : Link) (asks : List Asked) (js rs : List Entry) → Contains links link → AreOf f asks js → Asks f links link asks rs → AsksGiven f links (js ++ rs)
   asks_made link asks js rs listed h a = record {
     asks = λ newer older cell asked before after is. ⊎_elim
         (λ (t : (rest : List Entry) × (js ≡ newer ++ Join cell asked before after ∷ rest) × (older ≡ rest ++ rs)).
@@ -62,10 +63,11 @@ module _ (f : Facts) (links : List Link) where
           listed = listed;
           contents = a.contents;
           were_read = read_behind t.0 rs (reads f links link a.contents) a.contents a.were_read;
-          given = subst (λ (given : List Asked). Contains given (cell, asked)) a.given (asked_is asks js newer t.0 cell asked before after h t.1);
+          given = subst (λ (given : List Asked). Contains given (cell, asked)) a.given (asked_is f asks js newer t.0 cell asked before after h t.1);
         }))
-        (λ (t : (front : List Entry) × (newer ≡ js ++ front) × (rs ≡ front ++ Join cell asked before after ∷ older)). absurd (no_join rs t.0 older cell asked before after a.reads_alone t.2))
+        (λ (t : (front : List Entry) × (newer ≡ js ++ front) × (rs ≡ front ++ Join cell asked before after ∷ older)). absurd (no_join f rs t.0 older cell asked before after a.reads_alone t.2))
         (split js rs newer older (Join cell asked before after) is);
+    joins = All-append (LeavesJoin f) js rs (leave_joins f asks js h) (leave_joins f [] rs a.reads_alone);
   }
 
   -- what is left after more was done
@@ -80,11 +82,11 @@ module _ (f : Facts) (links : List Link) where
         (split xs ys newer older (Join cell asked before after) is);
   }
 
-  pub leaves_reads : (Q : List ℕ) (xs : List Entry) → AreOf [] xs → LeavesReaders f links Q xs
-  leaves_reads Q xs h = record { readers = λ newer older cell asked before after is ne number link at r. absurd (no_join xs newer older cell asked before after h is) }
+  pub leaves_reads : (Q : List ℕ) (xs : List Entry) → AreOf f [] xs → LeavesReaders f links Q xs
+  leaves_reads Q xs h = record { readers = λ newer older cell asked before after is ne number link at r. absurd (no_join f xs newer older cell asked before after h is) }
 
   -- one join, with the reads that led to it
-  pub leaves_join : (Q : List ℕ) (cell : ℕ) (asked before after : Content) (xs : List Entry) → AreOf [] xs
+  pub leaves_join : (Q : List ℕ) (cell : ℕ) (asked before after : Content) (xs : List Entry) → AreOf f [] xs
       → (before ≢ after → (number : ℕ) (link : Link) → slice_get links number ≡ Some link → IsReader f links cell link → Contains Q number) → LeavesReaders f links Q (Join cell asked before after ∷ xs)
   leaves_join Q cell asked before after xs h left = record { readers = readers }
     where
@@ -96,25 +98,25 @@ module _ (f : Facts) (links : List Link) where
           let same_before : before ≡ b = cc in
           let same_after : after ≡ x = cc in
           left (λ e. ne (sym same_before ∙ (e ∙ same_after))) number link at (subst (λ (d : ℕ). IsReader f links d link) (sym same_cell) r)
-      readers (n ∷ newer) older c a b x is ne number link at r = let tail : xs ≡ newer ++ Join c a b x ∷ older = cc in absurd (no_join xs newer older c a b x h tail)
+      readers (n ∷ newer) older c a b x is ne number link at r = let tail : xs ≡ newer ++ Join c a b x ∷ older = cc in absurd (no_join f xs newer older c a b x h tail)
 
   -- what a join makes
-  pub makes_join : (Q : List ℕ) (cell : ℕ) (asked before after : Content) (xs : List Entry) → AreOf [] xs → after ≡ join f before asked
+  pub makes_join : (Q : List ℕ) (cell : ℕ) (asked before after : Content) (xs : List Entry) → AreOf f [] xs → after ≡ join f before asked
       → (before ≢ after → (number : ℕ) (link : Link) → slice_get links number ≡ Some link → IsReader f links cell link → Contains Q number) → Makes f links Q ((cell, asked) ∷ []) (Join cell asked before after ∷ xs)
   makes_join Q cell asked before after xs h is left = record {
     joined = All-cons (WasJoined f (Join cell asked before after ∷ xs)) (cell, asked) [] (record { before = before; after = after; made = (0, omega arith, refl); after_is = is }) (All-nil (WasJoined f (Join cell asked before after ∷ xs)));
-    are_of = are_of_more ((cell, asked) ∷ []) (Join cell asked before after) xs (0, omega arith, refl) (are_of_reads ((cell, asked) ∷ []) xs h);
+    are_of = are_of_more f ((cell, asked) ∷ []) (Join cell asked before after) xs ((0, omega arith, refl), is) (are_of_reads f ((cell, asked) ∷ []) xs h);
     leaves = leaves_join Q cell asked before after xs h left;
   }
 
   pub makes_none : (Q : List ℕ) → Makes f links Q [] []
-  makes_none Q = record { joined = All-nil (WasJoined f []); are_of = are_of_none []; leaves = leaves_reads Q [] (are_of_none []) }
+  makes_none Q = record { joined = All-nil (WasJoined f []); are_of = are_of_none f []; leaves = leaves_reads Q [] (are_of_none f []) }
 
   -- one join more
   pub makes_more : (P Q : List ℕ) (firsts lasts : List Asked) (xs ys : List Entry) → Keeps P Q → Makes f links Q lasts xs → Makes f links P firsts ys → Makes f links Q (firsts ++ lasts) (xs ++ ys)
   makes_more P Q firsts lasts xs ys k p q = record {
     joined = All-append (WasJoined f (xs ++ ys)) firsts lasts (all_joined_behind xs ys f firsts q.joined) (all_joined_in_front xs ys f lasts p.joined);
-    are_of = are_of_both (firsts ++ lasts) xs ys (are_of_wider lasts (firsts ++ lasts) xs (λ a at. Contains-append_right firsts lasts a at) p.are_of) (are_of_wider firsts (firsts ++ lasts) ys (λ a at. Contains-append_left firsts lasts a at) q.are_of);
+    are_of = are_of_both f (firsts ++ lasts) xs ys (are_of_wider f lasts (firsts ++ lasts) xs (λ a at. Contains-append_right firsts lasts a at) p.are_of) (are_of_wider f firsts (firsts ++ lasts) ys (λ a at. Contains-append_left firsts lasts a at) q.are_of);
     leaves = leaves_both Q xs ys p.leaves (leaves_keeps P Q ys k q.leaves);
   }
 
@@ -154,8 +156,8 @@ module _ (f : Facts) (links : List Link) where
   pub starts_none : (Q : List ℕ) (index of k : ℕ) → ((give : Content) (to : ℕ) → slice_get links k ≡ Some (Root give to) → k % of ≡ index → ⊥) → Starts f links Q index of k []
   starts_none Q index of k h = record {
     root = λ give to at is. absurd (h give to at is);
-    asks = asks_reads [] (are_of_none []);
-    leaves = leaves_reads Q [] (are_of_none []);
+    asks = asks_reads [] (are_of_none f []);
+    leaves = leaves_reads Q [] (are_of_none f []);
   }
 
   -- behind each raise every reader is served or left
@@ -190,9 +192,9 @@ module _ (f : Facts) (links : List Link) where
 
   pub going_none : (index of : ℕ) (left : List ℕ) → IsGoing index of 0 left []
   going_none index of left = record {
-    follows = record { readers = λ newer older cell asked before after is ne number link at r. absurd (no_join [] newer older cell asked before after (are_of_none []) is) };
+    follows = record { readers = λ newer older cell asked before after is ne number link at r. absurd (no_join f [] newer older cell asked before after (are_of_none f []) is) };
     roots = record { roots = λ number give to lt. absurd (omega arith) };
-    asks = asks_reads [] (are_of_none []);
+    asks = asks_reads [] (are_of_none f []);
   }
 
   pub going_start : (index of k : ℕ) (P Q : List ℕ) (more es : List Entry) → Keeps P Q → Starts f links Q index of k more → IsGoing index of k P es → IsGoing index of (k + 1) Q (more ++ es)
@@ -238,12 +240,12 @@ made_more f links P Q asked i d old mid new keeps lt p q =
 
 -- and where one was not, what was made is of those asked for
 pub made_part : (f : Facts) (links : List Link) (P : List ℕ) (asked : List Asked) (i : ℕ) (d : Asked) (old mid new : List Entry) → i < length asked
-    → Adds (Makes f links P (take i asked)) old mid → Adds (AreOf (get_or asked i d ∷ [])) mid new → Adds (AreOf asked) old new
+    → Adds (Makes f links P (take i asked)) old mid → Adds (AreOf f (get_or asked i d ∷ [])) mid new → Adds (AreOf f asked) old new
 made_part f links P asked i d old mid new lt p q =
-    adds_twice (Makes f links P (take i asked)) (AreOf (get_or asked i d ∷ [])) (AreOf asked) old mid new
-    (λ xs ys h k. are_of_both asked xs ys
-    (are_of_wider (get_or asked i d ∷ []) asked xs (λ a at. subst (Contains asked) (only (get_or asked i d) a at) (Contains-get_or asked i d lt)) h)
-    (are_of_wider (take i asked) asked ys (λ a at. subst (λ (zs : List Asked). Contains zs a) (take-append-drop i asked) (Contains-append_left (take i asked) (drop i asked) a at)) k.are_of)) p q
+    adds_twice (Makes f links P (take i asked)) (AreOf f (get_or asked i d ∷ [])) (AreOf f asked) old mid new
+    (λ xs ys h k. are_of_both f asked xs ys
+    (are_of_wider f (get_or asked i d ∷ []) asked xs (λ a at. subst (Contains asked) (only (get_or asked i d) a at) (Contains-get_or asked i d lt)) h)
+    (are_of_wider f (take i asked) asked ys (λ a at. subst (λ (zs : List Asked). Contains zs a) (take-append-drop i asked) (Contains-append_left (take i asked) (drop i asked) a at)) k.are_of)) p q
   where
     only : (b a : Asked) → Contains (b ∷ []) a → b ≡ a
     only b a at = only_at at.0 at.1 at.2
@@ -256,5 +258,5 @@ made_part f links P asked i d old mid new lt p q =
 pub made_all : (f : Facts) (links : List Link) (P : List ℕ) (asked : List Asked) (i : ℕ) (old new : List Entry) → length asked ≤ i → Adds (Makes f links P (take i asked)) old new → Adds (Makes f links P asked) old new
 made_all f links P asked i old new le h = subst (λ (xs : List Asked). Adds (Makes f links P xs) old new) (take_all i asked le) h
 
-pub made_are_of : (f : Facts) (links : List Link) (P : List ℕ) (asked : List Asked) (old new : List Entry) → Adds (Makes f links P asked) old new → Adds (AreOf asked) old new
+pub made_are_of : (f : Facts) (links : List Link) (P : List ℕ) (asked : List Asked) (old new : List Entry) → Adds (Makes f links P asked) old new → Adds (AreOf f asked) old new
 made_are_of f links P asked old new h = record { more = h.more; added = h.added; holds = h.holds.are_of }

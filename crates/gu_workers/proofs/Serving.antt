@@ -14,8 +14,8 @@ module _ (f : Facts) (links : List Link) (k : ℕ) (lt : k < length links) (aske
   asks_shown : Adds (Asks f links (link_at links k) asked) old mid → Adds (Asks f links (link_at links k) shown) old mid
   asks_shown h = subst (λ (xs : List Asked). Adds (Asks f links (link_at links k) xs) old mid) (sym same) h
 
-  pub step_asks : Adds (Asks f links (link_at links k) asked) old mid → Adds (AreOf shown) mid new → Adds (AsksGiven f links) old new
-  step_asks p q = adds_twice (Asks f links (link_at links k) shown) (AreOf shown) (AsksGiven f links) old mid new
+  pub step_asks : Adds (Asks f links (link_at links k) asked) old mid → Adds (AreOf f shown) mid new → Adds (AsksGiven f links) old new
+  step_asks p q = adds_twice (Asks f links (link_at links k) shown) (AreOf f shown) (AsksGiven f links) old mid new
       (λ js rs h a. asks_made f links (link_at links k) shown js rs (link_listed f links k lt) h a) (asks_shown p) q
 
   pub step_serves : (Q : List ℕ) → Adds (Asks f links (link_at links k) asked) old mid → Adds (Makes f links Q shown) mid new → Adds (Serves f links Q (link_at links k)) old new
@@ -25,5 +25,5 @@ module _ (f : Facts) (links : List Link) (k : ℕ) (lt : k < length links) (aske
 pub step_weighs : (f : Facts) (cells n : ℕ) (old mid new : List Entry) (p q : ℕ) → room f cells mid ≤ room f cells old → weight f cells n new q ≤ weight f cells n mid p → weight f cells n new q ≤ weight f cells n old p
 step_weighs f cells n old mid new p q h k = weight_on f cells n old mid new p p q (weight_same n (room f cells mid) (room f cells old) p h) k
 
-pub reads_ask : (f : Facts) (links : List Link) (old new : List Entry) → Adds (AreOf []) old new → Adds (AsksGiven f links) old new
-reads_ask f links old new h = adds_as (AreOf []) (AsksGiven f links) old new (asks_reads f links) h
+pub reads_ask : (f : Facts) (links : List Link) (old new : List Entry) → Adds (AreOf f []) old new → Adds (AsksGiven f links) old new
+reads_ask f links old new h = adds_as (AreOf f []) (AsksGiven f links) old new (asks_reads f links) h

@@ -9,7 +9,7 @@ use Rattle.gu_cells.specs.declared.record.Entry.TheVariants.{Read, Join}
 use Rattle.gu_cells.specs.Record.{reads_of}
 use Rattle.gu_links.specs.declared.link.Link.{Link}
 use Rattle.gu_links.specs.Gives.{Contents, Asked, gives, reads}
-use Rattle.gu_workers.specs.Work.{WereRead, WasJoined, IsServed, IsAskedFor}
+use Rattle.gu_workers.specs.Work.{WereRead, WasJoined, IsServed, IsAskedFor, LeavesJoin}
 use Rattle.gu_workers.specs.Steps.{IsOneOf, AreOf}
 
 -- an entry of two records, one in front of the other, stands in one of them
@@ -36,34 +36,43 @@ holds_of P entries newer older e h is = All-contains P entries e h (subst (λ (e
 none_in : (A : Asked) → Contains [] A → ⊥
 none_in a at = let lt = at.1 in omega arith
 
-pub no_join : (entries newer older : List Entry) (cell : ℕ) (asked before after : Content) → AreOf [] entries → entries ≡ newer ++ Join cell asked before after ∷ older → ⊥
-no_join entries newer older cell asked before after h is = none_in (cell, asked) (holds_of (IsOneOf []) entries newer older (Join cell asked before after) h.each is)
+module _ (f : Facts) where
+  pub no_join : (entries newer older : List Entry) (cell : ℕ) (asked before after : Content) → AreOf f [] entries → entries ≡ newer ++ Join cell asked before after ∷ older → ⊥
+  no_join entries newer older cell asked before after h is = none_in (cell, asked) (holds_of (IsOneOf f []) entries newer older (Join cell asked before after) h.each is).0
 
-pub asked_is : (asks : List Asked) (entries newer older : List Entry) (cell : ℕ) (asked before after : Content) → AreOf asks entries → entries ≡ newer ++ Join cell asked before after ∷ older → Contains asks (cell, asked)
-asked_is asks entries newer older cell asked before after h is = holds_of (IsOneOf asks) entries newer older (Join cell asked before after) h.each is
+  pub asked_is : (asks : List Asked) (entries newer older : List Entry) (cell : ℕ) (asked before after : Content) → AreOf f asks entries → entries ≡ newer ++ Join cell asked before after ∷ older → Contains asks (cell, asked)
+  asked_is asks entries newer older cell asked before after h is = (holds_of (IsOneOf f asks) entries newer older (Join cell asked before after) h.each is).0
 
-wider : (xs ys : List Asked) → ((a : Asked) → Contains xs a → Contains ys a) → (e : Entry) → IsOneOf xs e → IsOneOf ys e
-wider xs ys h (Read cell content) p = tt
-wider xs ys h (Join cell content before after) p = h (cell, content) p
+  leaves_join : (asked : List Asked) (e : Entry) → IsOneOf f asked e → LeavesJoin f e
+  leaves_join asked (Read cell content) p = tt
+  leaves_join asked (Join cell content before after) p = p.1
 
-pub are_of_wider : (xs ys : List Asked) (entries : List Entry) → ((a : Asked) → Contains xs a → Contains ys a) → AreOf xs entries → AreOf ys entries
-are_of_wider xs ys entries h p = record { each = All-weaker (IsOneOf xs) (IsOneOf ys) (wider xs ys h) entries p.each }
+  -- each of them leaves what it found joined with what was asked
+  pub leave_joins : (asked : List Asked) (entries : List Entry) → AreOf f asked entries → All (LeavesJoin f) entries
+  leave_joins asked entries h = All-weaker (IsOneOf f asked) (LeavesJoin f) (leaves_join asked) entries h.each
 
-pub are_of_reads : (asked : List Asked) (entries : List Entry) → AreOf [] entries → AreOf asked entries
-are_of_reads asked entries p = are_of_wider [] asked entries (λ a at. absurd (none_in a at)) p
+  wider : (xs ys : List Asked) → ((a : Asked) → Contains xs a → Contains ys a) → (e : Entry) → IsOneOf f xs e → IsOneOf f ys e
+  wider xs ys h (Read cell content) p = tt
+  wider xs ys h (Join cell content before after) p = (h (cell, content) p.0, p.1)
 
-pub are_of_both : (asked : List Asked) (xs ys : List Entry) → AreOf asked xs → AreOf asked ys → AreOf asked (xs ++ ys)
-are_of_both asked xs ys p q = record { each = All-append (IsOneOf asked) xs ys p.each q.each }
+  pub are_of_wider : (xs ys : List Asked) (entries : List Entry) → ((a : Asked) → Contains xs a → Contains ys a) → AreOf f xs entries → AreOf f ys entries
+  are_of_wider xs ys entries h p = record { each = All-weaker (IsOneOf f xs) (IsOneOf f ys) (wider xs ys h) entries p.each }
 
-pub are_of_none : (asked : List Asked) → AreOf asked []
-are_of_none asked = record { each = All-nil (IsOneOf asked) }
+  pub are_of_reads : (asked : List Asked) (entries : List Entry) → AreOf f [] entries → AreOf f asked entries
+  are_of_reads asked entries p = are_of_wider [] asked entries (λ a at. absurd (none_in a at)) p
 
-pub are_of_more : (asked : List Asked) (e : Entry) (entries : List Entry) → IsOneOf asked e → AreOf asked entries → AreOf asked (e ∷ entries)
-are_of_more asked e entries p q = record { each = All-cons (IsOneOf asked) e entries p q.each }
+  pub are_of_both : (asked : List Asked) (xs ys : List Entry) → AreOf f asked xs → AreOf f asked ys → AreOf f asked (xs ++ ys)
+  are_of_both asked xs ys p q = record { each = All-append (IsOneOf f asked) xs ys p.each q.each }
 
-pub reads_are_of : (asked : List Asked) (cell : ℕ) (found : List Content) → AreOf asked (reads_of cell found)
-reads_are_of asked cell [] = are_of_none asked
-reads_are_of asked cell (x ∷ found) = are_of_more asked (Read cell x) (reads_of cell found) tt (reads_are_of asked cell found)
+  pub are_of_none : (asked : List Asked) → AreOf f asked []
+  are_of_none asked = record { each = All-nil (IsOneOf f asked) }
+
+  pub are_of_more : (asked : List Asked) (e : Entry) (entries : List Entry) → IsOneOf f asked e → AreOf f asked entries → AreOf f asked (e ∷ entries)
+  are_of_more asked e entries p q = record { each = All-cons (IsOneOf f asked) e entries p q.each }
+
+  pub reads_are_of : (asked : List Asked) (cell : ℕ) (found : List Content) → AreOf f asked (reads_of cell found)
+  reads_are_of asked cell [] = are_of_none asked
+  reads_are_of asked cell (x ∷ found) = are_of_more asked (Read cell x) (reads_of cell found) tt (reads_are_of asked cell found)
 
 -- more entries show no less
 module _ (xs ys : List Entry) where

@@ -18,6 +18,6 @@ pub record IsHeld (f : Facts) (longs : List ℕ) (ceilings : List Content) (know
   pub capped : (c : ℕ) → AtMost f (contents c) (at ceilings c)
 
 -- the entries are reads, among them those of all that is known
-pub record AreKnown (known : List Item) (entries : List Entry) : Type 0 where
-  pub reads_alone : AreOf [] entries
+pub record AreKnown (f : Facts) (known : List Item) (entries : List Entry) : Type 0 where
+  pub reads_alone : AreOf f [] entries
   pub shown : All (λ (k : Item). Contains entries (Read k.0 k.1)) known

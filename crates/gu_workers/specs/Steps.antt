@@ -4,6 +4,7 @@ use Rattle.gu_contents.specs.declared.content.Content.{Content}
 use Rattle.gu_contents.specs.declared.facts.Facts.{Facts}
 use Rattle.gu_contents.specs.Order.{AtMost}
 use Rattle.gu_contents.specs.Rank.{rank}
+use Rattle.gu_contents.specs.Join.{join}
 use Rattle.gu_cells.specs.declared.record.Entry.{Entry}
 use Rattle.gu_cells.specs.declared.record.Entry.TheVariants.{Read, Join}
 use Rattle.gu_cells.specs.Record.{at, seen, BelongsTo}
@@ -19,14 +20,14 @@ pub record Adds (P : List Entry → Type 0) (old new : List Entry) : Type 0 wher
   pub added : new ≡ more ++ old
   pub holds : P more
 
--- an entry is a read, or one of the joins that are asked for
-abbrev pub IsOneOf : List Asked → Entry → Type 0
-IsOneOf asked (Read cell content) = Unit {0}
-IsOneOf asked (Join cell content before after) = Contains asked (cell, content)
+-- an entry is a read, or one of the joins that are asked for, which leaves what it found joined with what was asked
+abbrev pub IsOneOf : Facts → List Asked → Entry → Type 0
+IsOneOf f asked (Read cell content) = Unit {0}
+IsOneOf f asked (Join cell content before after) = Contains asked (cell, content) × (after ≡ join f before content)
 
 -- each entry is
-pub record AreOf (asked : List Asked) (entries : List Entry) : Type 0 where
-  pub each : All (IsOneOf asked) entries
+pub record AreOf (f : Facts) (asked : List Asked) (entries : List Entry) : Type 0 where
+  pub each : All (IsOneOf f asked) entries
 
 -- a join is of one of so many cells, its content belongs, and is at most the ceiling
 pub record IsFitting (f : Facts) (longs : List ℕ) (count : ℕ) (ceilings : List Content) (asked : Asked) : Type 0 where
@@ -37,7 +38,7 @@ pub record IsFitting (f : Facts) (longs : List ℕ) (count : ℕ) (ceilings : Li
 -- the entries are reads of all cells on which a link rests, and the joins are what it asks for on the contents that these
 -- had
 pub record Asks (f : Facts) (links : List Link) (link : Link) (asked : List Asked) (entries : List Entry) : Type 0 where
-  pub reads_alone : AreOf [] entries
+  pub reads_alone : AreOf f [] entries
   pub contents : Contents
   pub were_read : WereRead entries (reads f links link contents) contents
   pub given : asked ≡ gives f links link contents
@@ -51,7 +52,7 @@ pub record LeavesReaders (f : Facts) (links : List Link) (left : List ℕ) (entr
 -- are left
 pub record Makes (f : Facts) (links : List Link) (left : List ℕ) (asked : List Asked) (entries : List Entry) : Type 0 where
   pub joined : All (WasJoined f entries) asked
-  pub are_of : AreOf asked entries
+  pub are_of : AreOf f asked entries
   pub leaves : LeavesReaders f links left entries
 
 -- a link is served, with joins that are asked for alone, and the readers of each cell that rose are left

@@ -47,9 +47,16 @@ pub record Follows (f : Facts) (links : List Link) (entries : List Entry) : Type
   pub readers : (newer older : List Entry) (cell : ℕ) (asked before after : Content) → entries ≡ newer ++ Join cell asked before after ∷ older → before ≢ after
       → (link : Link) → Contains links link → IsReader f links cell link → IsServed f links newer link
 
--- every join is one that some link asks for, on contents that were read before
+-- a join leaves what it found, joined with what was asked
+abbrev pub LeavesJoin : Facts → Entry → Type 0
+LeavesJoin f (Read cell content) = Unit {0}
+LeavesJoin f (Join cell asked before after) = after ≡ join f before asked
+
+-- every join is one that some link asks for, on contents that were read before, and leaves what it found joined with what
+-- was asked
 pub record AsksGiven (f : Facts) (links : List Link) (entries : List Entry) : Type 0 where
   pub asks : (newer older : List Entry) (cell : ℕ) (asked before after : Content) → entries ≡ newer ++ Join cell asked before after ∷ older → IsAskedFor f links older (cell, asked)
+  pub joins : All (LeavesJoin f) entries
 
 -- what the worker with an index, one of so many, did in a whole run
 pub record IsWork (f : Facts) (links : List Link) (index of : ℕ) (entries : List Entry) : Type 0 where

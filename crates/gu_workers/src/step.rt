@@ -35,8 +35,8 @@ fn look_up<N: Ceilings>(
     requires cells { cells.now.cells ≡ s.now.cells }
     requires seat { seat.old.of ≡ cells.now.id }
     ensures seat { IsSameSeat seat.old seat.new }
-    ensures reads { Adds (AreOf []) seat.old.entries seat.new.entries }
-    ensures known { IfOk result (λ known. Adds (AreKnown known.items) seat.old.entries seat.new.entries) }
+    ensures reads { Adds (AreOf N.facts []) seat.old.entries seat.new.entries }
+    ensures known { IfOk result (λ known. Adds (AreKnown N.facts known.items) seat.old.entries seat.new.entries) }
     ensures room { OnOk result (room N.facts s.now.cells seat.new.entries ≤ room N.facts s.now.cells seat.old.entries) }
     ensures held { IfOk result (λ known. IsHeld N.facts N.longs N.ceilings known.items) }
     ensures onward { IfOk result (λ known. IsKnown N.facts N.longs s.now.links (link_at s.now.links link) known.items) }
@@ -67,7 +67,7 @@ fn ask<N: Ceilings>(
     requires belong { AllBelong N.facts (at N.ceilings) }
     requires ceilings { Solves N.facts s.now.links (at N.ceilings) }
     ensures seat { IsSameSeat seat.old seat.new }
-    ensures reads { Adds (AreOf []) seat.old.entries seat.new.entries }
+    ensures reads { Adds (AreOf N.facts []) seat.old.entries seat.new.entries }
     ensures asks { IfOk result (λ asked. Adds (Asks N.facts s.now.links (link_at s.now.links link) asked) seat.old.entries seat.new.entries) }
     ensures room { OnOk result (room N.facts s.now.cells seat.new.entries ≤ room N.facts s.now.cells seat.old.entries) }
     ensures fitting { IfOk result (λ asked. All (IsFitting N.facts N.longs s.now.cells N.ceilings) asked) }
@@ -96,7 +96,7 @@ fn raise<N: Ceilings, G: Gate>(
     ensures worker { (w.new.index ≡ w.old.index) × (w.new.of ≡ w.old.of) × IsSameSeat w.old.seat w.new.seat }
     ensures left { IsLeftOf (length s.now.links) left.new }
     ensures keeps { Keeps left.old.waiting left.new.waiting }
-    ensures are_of { Adds (AreOf ((cell, content) ∷ [])) w.old.seat.entries w.new.seat.entries }
+    ensures are_of { Adds (AreOf N.facts ((cell, content) ∷ [])) w.old.seat.entries w.new.seat.entries }
     ensures makes { OnOk result (Adds (Makes N.facts s.now.links left.new.waiting ((cell, content) ∷ [])) w.old.seat.entries w.new.seat.entries) }
     ensures weight { OnOk result (weight N.facts s.now.cells (length s.now.links) w.new.seat.entries (length left.new.waiting) ≤ weight N.facts s.now.cells (length s.now.links) w.old.seat.entries (length left.old.waiting)) }
 {
@@ -126,7 +126,7 @@ fn join_all<N: Ceilings, G: Gate>(
     ensures worker { (w.new.index ≡ w.old.index) × (w.new.of ≡ w.old.of) × IsSameSeat w.old.seat w.new.seat }
     ensures left { IsLeftOf (length s.now.links) left.new }
     ensures keeps { Keeps left.old.waiting left.new.waiting }
-    ensures are_of { Adds (AreOf asked.now) w.old.seat.entries w.new.seat.entries }
+    ensures are_of { Adds (AreOf N.facts asked.now) w.old.seat.entries w.new.seat.entries }
     ensures makes { OnOk result (Adds (Makes N.facts s.now.links left.new.waiting asked.now) w.old.seat.entries w.new.seat.entries) }
     ensures weight { OnOk result (weight N.facts s.now.cells (length s.now.links) w.new.seat.entries (length left.new.waiting) ≤ weight N.facts s.now.cells (length s.now.links) w.old.seat.entries (length left.old.waiting)) }
 {

@@ -3,6 +3,7 @@ use Rattle.std.specs.List.{range_with_len}
 use Rattle.std.specs.Prelude.{slice_get}
 use Rattle.gu_cells.specs.Views.{SeatView}
 use Rattle.gu_fixpoint.proofs.Running.{long_map, numbers_long, all_ready, numbers_stay, cells_stay, all_worked, unmapped, mapped, is_track, track_is_least}
+use Rattle.gu_fixpoint.proofs.Bounding.{are_of}
 use Rattle.gu_fixpoint.proofs.solving.together.Goals as goal
 
 pub seat_all-requires : goal.seat_all-requires
@@ -36,7 +37,7 @@ returns-in-Ok-clause-track g c =
     let stay = numbers_stay (λ w. w.worker.seat) (λ w. w.worker.index) (λ w. w.worker.of) (λ w. w.done) f links n c.in_ok-cells.cells.id ws vs r in
     let numbers = ap (map (λ (s : SeatView). s.number)) (sym u.seats) ∙ (stay ∙ (ap (map (λ (s : SeatView). s.number)) h.seats ∙ o.numbers)) in
     let long = ap length e.track ∙ (long_map (λ (s : SeatView). s.entries) T ∙ numbers_long n T numbers) in
-    is_track f longs links n c.in-Ok.solved.0 c.in-Ok.solved.1 long (λ j entries at. works j entries (ap (λ es. slice_get es j) (sym e.track) ∙ at)) e.all e.seen e.settled
+    is_track f longs links n c.in-Ok.solved.0 c.in-Ok.solved.1 e.belong long (λ j entries at. works j entries (ap (λ es. slice_get es j) (sym e.track) ∙ at)) e.all e.seen e.settled
 
 pub returns-in-Ok-clause-least : goal.returns-in-Ok-clause-least
 returns-in-Ok-clause-least g c =
@@ -48,4 +49,7 @@ returns-in-Ok-clause-least g c =
     let numbers = ap (map (λ (s : SeatView). s.number)) (sym u.seats) ∙ (stay ∙ (ap (map (λ (s : SeatView). s.number)) h.seats ∙ o.numbers)) in
     let long = ap length e.track ∙ (long_map (λ (s : SeatView). s.entries) T ∙ numbers_long n T numbers) in
     track_is_least f longs links n c.in-Ok.solved.0 c.in-Ok.solved.1 g.N.Ceilings.ceilings c.requires.some c.requires.ceilings e.ceilings e.belong
-    (is_track f longs links n c.in-Ok.solved.0 c.in-Ok.solved.1 long (λ j entries at. works j entries (ap (λ es. slice_get es j) (sym e.track) ∙ at)) e.all e.seen e.settled)
+    (is_track f longs links n c.in-Ok.solved.0 c.in-Ok.solved.1 e.belong long (λ j entries at. works j entries (ap (λ es. slice_get es j) (sym e.track) ∙ at)) e.all e.seen e.settled)
+
+pub returns-in-Ok-clause-are_of : goal.returns-in-Ok-clause-are_of
+returns-in-Ok-clause-are_of g c = are_of g.N.Ceilings.facts g.N.Ceilings.longs c.in-Ok.solved.0 c.in-Ok.ensures.belong

@@ -11,7 +11,7 @@ use Rattle.gu_workers.proofs.step.look_up.Goals as goal
 pub reads-init : goal.reads-init
 reads-init g c = let e = sym c.new-known.ensures.items in let old = c.args.seat.now.entries in let link = link_at c.args.s.now.links c.args.link in record {
   seat = search rules;
-  known = subst (λ (known : List Item). Adds (AreKnown known) old old) e (known_none old);
+  known = subst (λ (known : List Item). Adds (AreKnown g.N.Ceilings.facts known) old old) e (known_none g.N.Ceilings.facts old);
   room = omega arith;
   held = subst (IsHeld g.N.Ceilings.facts g.N.Ceilings.longs g.N.Ceilings.ceilings) e (held_none g.N.Ceilings.facts g.N.Ceilings.longs g.N.Ceilings.ceilings);
   onward = subst (IsKnown g.N.Ceilings.facts g.N.Ceilings.longs c.args.s.now.links link) e (nothing_known g.N.Ceilings.facts g.N.Ceilings.longs c.args.s.now.links link);
@@ -33,7 +33,7 @@ reads-preserved g c =
     let link = link_at c.args.s.now.links c.args.link in
     let h = c.read-content.ensures in record {
       seat = search rules;
-      known = subst (λ (ks : List Item). Adds (AreKnown ks) old new) e (known_more known cell a old c.reads.seat.entries new inv.known h.record);
+      known = subst (λ (ks : List Item). Adds (AreKnown g.N.Ceilings.facts ks) old new) e (known_more g.N.Ceilings.facts known cell a old c.reads.seat.entries new inv.known h.record);
       room = omega (arith, inv.room, read_room g.N.Ceilings.facts g.N.Ceilings.longs c.args.s.now.cells cell a c.reads.seat.entries new h.record h.all);
       held = subst (IsHeld g.N.Ceilings.facts g.N.Ceilings.longs g.N.Ceilings.ceilings) e (held_more g.N.Ceilings.facts g.N.Ceilings.longs g.N.Ceilings.ceilings known cell a inv.held
           (λ at. c.in-Some.ensures.new (subst (λ (ks : List Item). Contains (cells_of ks) cell) (sym c.as_slice.ensures.value) at)) h.belongs h.ceiling);
@@ -45,4 +45,4 @@ reads-preserved g c =
 
 pub returns-in_err-push-clause-reads : goal.returns-in_err-push-clause-reads
 returns-in_err-push-clause-reads g c = let inv = c.reads.invariant in
-    reads_and_one c.in-Some.cell c.read-content.result c.args.seat.now.entries c.reads.seat.entries c.read-content.new.seat.entries (reads_of_known c.reads.known.items c.args.seat.now.entries c.reads.seat.entries inv.known) c.read-content.ensures.record
+    reads_and_one g.N.Ceilings.facts c.in-Some.cell c.read-content.result c.args.seat.now.entries c.reads.seat.entries c.read-content.new.seat.entries (reads_of_known g.N.Ceilings.facts c.reads.known.items c.args.seat.now.entries c.reads.seat.entries inv.known) c.read-content.ensures.record

@@ -9,7 +9,7 @@ use Rattle.gu_workers.proofs.step.look_up.Given as goal
 abbrev pub invariant-reads : goal.invariant-reads
 invariant-reads g l = record {
   seat : IsSameSeat l.fn.seat l.seat;
-  known : Adds (AreKnown l.known.items) l.fn.seat.entries l.seat.entries;
+  known : Adds (AreKnown g.N.Ceilings.facts l.known.items) l.fn.seat.entries l.seat.entries;
   room : room g.N.Ceilings.facts l.s.cells l.seat.entries ≤ room g.N.Ceilings.facts l.s.cells l.fn.seat.entries;
   held : IsHeld g.N.Ceilings.facts g.N.Ceilings.longs g.N.Ceilings.ceilings l.known.items;
   onward : IsKnown g.N.Ceilings.facts g.N.Ceilings.longs l.s.links (link_at l.s.links l.link) l.known.items;

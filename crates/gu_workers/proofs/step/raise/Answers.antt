@@ -4,15 +4,15 @@ use Rattle.gu_workers.proofs.step.raise.Goals as goal
 
 pub returns-in_err-add_readers-clause-are_of : goal.returns-in_err-add_readers-clause-are_of
 returns-in_err-add_readers-clause-are_of g c = let j = c.join-joined.result in
-    join_adds g.N.Ceilings.facts g.N.Ceilings.longs c.args.s.now.links c.args.cell c.args.content j.before j.after c.args.w.now.seat.entries c.join-joined.new.seat.entries c.join-joined.ensures.record
+    join_adds g.N.Ceilings.facts g.N.Ceilings.longs c.args.s.now.links c.args.cell c.args.content j.before j.after c.args.w.now.seat.entries c.join-joined.new.seat.entries c.join-joined.ensures.record c.join-joined.ensures.after
 
 pub returns-in_ok-add_readers-clause-are_of : goal.returns-in_ok-add_readers-clause-are_of
 returns-in_ok-add_readers-clause-are_of g c = let j = c.join-joined.result in
-    join_adds g.N.Ceilings.facts g.N.Ceilings.longs c.args.s.now.links c.args.cell c.args.content j.before j.after c.args.w.now.seat.entries c.join-joined.new.seat.entries c.join-joined.ensures.record
+    join_adds g.N.Ceilings.facts g.N.Ceilings.longs c.args.s.now.links c.args.cell c.args.content j.before j.after c.args.w.now.seat.entries c.join-joined.new.seat.entries c.join-joined.ensures.record c.join-joined.ensures.after
 
 pub returns-else-joined-clause-are_of : goal.returns-else-joined-clause-are_of
 returns-else-joined-clause-are_of g c = let j = c.join-joined.result in
-    join_adds g.N.Ceilings.facts g.N.Ceilings.longs c.args.s.now.links c.args.cell c.args.content j.before j.after c.args.w.now.seat.entries c.join-joined.new.seat.entries c.join-joined.ensures.record
+    join_adds g.N.Ceilings.facts g.N.Ceilings.longs c.args.s.now.links c.args.cell c.args.content j.before j.after c.args.w.now.seat.entries c.join-joined.new.seat.entries c.join-joined.ensures.record c.join-joined.ensures.after
 
 pub returns-in_ok-add_readers-clause-makes : goal.returns-in_ok-add_readers-clause-makes
 returns-in_ok-add_readers-clause-makes g c = let j = c.join-joined.result in

@@ -21,7 +21,7 @@ pub returns-else-is_share-clause-asks : goal.returns-else-is_share-clause-asks
 returns-else-is_share-clause-asks g c =
     let f = g.N.Ceilings.facts in
     let links = c.args.s.now.links in
-    adds_none (AsksGiven f links) c.args.w.now.seat.entries (asks_reads f links [] (are_of_none []))
+    adds_none (AsksGiven f links) c.args.w.now.seat.entries (asks_reads f links [] (are_of_none f []))
 
 pub returns-else-is_share-clause-starts : goal.returns-else-is_share-clause-starts
 returns-else-is_share-clause-starts g c =
