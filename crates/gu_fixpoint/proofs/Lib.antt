@@ -1,3 +1,4 @@
 pub mod Starting
 pub mod Bounding
+pub mod Busy
 pub mod Running

@@ -1,6 +1,6 @@
 -- Workers before and after their run, and what their records show.
-use Rattle.std.proofs.Common.{ℕ, zero, suc, ◌≡◌, ◌+◌, ◌<◌, Bool, true, List, [], ◌∷◌, ◌++◌, map, length, get_or, sym, refl, ap, ◌∙◌, subst, arith}
-use Rattle.std.specs.Prelude.{All, Some, slice_get}
+use Rattle.std.proofs.Common.{ℕ, zero, suc, ◌≡◌, ◌+◌, ◌<◌, ◌≤◌, Bool, true, List, [], ◌∷◌, ◌++◌, map, length, get_or, sym, refl, ap, ◌∙◌, subst, arith}
+use Rattle.std.specs.Prelude.{All, Some, slice_get, slice_index_or}
 use Rattle.std.specs.List.{range_with_len}
 use Rattle.std.proofs.lemmas.Option.{none-some, same_Some}
 use Rattle.std.proofs.lemmas.List.Elements.{All-nil, All-cons, All-head, All-tail, All-push}
@@ -21,8 +21,9 @@ use Rattle.gu_links.specs.declared.link.Link.{Link}
 use Rattle.gu_links.specs.Solutions.{at, Least}
 use Rattle.gu_workers.specs.Work.{IsWork}
 use Rattle.gu_workers.proofs.Settling.{settled_contents_are_least}
-use Rattle.gu_fixpoint.specs.Hands.{IsReady, HasRun, Pairs}
+use Rattle.gu_fixpoint.specs.Hands.{AreBusy, IsReady, HasRun, Pairs}
 use Rattle.gu_fixpoint.specs.Track.{IsTrack}
+use Rattle.gu_fixpoint.proofs.Busy.{idle_work}
 use Rattle.gu_fixpoint.proofs.Bounding.{all_leave_joins, records_bounded}
 
 pub long_map : {A B : Type 0} (g : A → B) (xs : List A) → length (map g xs) ≡ length xs
@@ -55,6 +56,24 @@ module _ {X : Type 0} (R : X → X → Type 0) where
   pairs_alike g same (x ∷ xs) [] p = absurd (let e = p.long in omega arith)
   pairs_alike g same (x ∷ xs) (y ∷ ys) p = let e = same x y (first_pair x y xs ys p) in let es = pairs_alike g same xs ys (other_pairs x y xs ys p) in cc
 
+pairs_more : {X : Type 0} (R : X → X → Type 0) (x y : X) (xs ys : List X) → R x y → Pairs R xs ys → Pairs R (x ∷ xs) (y ∷ ys)
+pairs_more {X} R x y xs ys r p = record { long = ap suc p.long; each = each }
+  where
+    each : (k : ℕ) (d : X) → k < length (x ∷ xs) → R (slice_index_or (x ∷ xs) k d) (slice_index_or (y ∷ ys) k d)
+    each zero d lt = r
+    each (suc k) d lt = p.each k d (omega arith)
+
+-- pairs of the first parts of two lists whose last parts are the same
+pairs_front : {X : Type 0} (R : X → X → Type 0) (xs ys zs : List X) → Pairs R xs ys → All (λ x. R x x) zs → Pairs R (xs ++ zs) (ys ++ zs)
+pairs_front R [] [] zs p h = record { long = refl; each = h }
+pairs_front R [] (y ∷ ys) zs p h = absurd (let e = p.long in omega arith)
+pairs_front R (x ∷ xs) [] zs p h = absurd (let e = p.long in omega arith)
+pairs_front R (x ∷ xs) (y ∷ ys) zs p h = pairs_more R x y (xs ++ zs) (ys ++ zs) (first_pair R x y xs ys p) (pairs_front R xs ys zs (other_pairs R x y xs ys p) h)
+
+all_last : {X : Type 0} (P : X → Type 0) (xs zs : List X) → All P (xs ++ zs) → All P zs
+all_last P [] zs h = h
+all_last P (x ∷ xs) zs h = all_last P xs zs (All-tail P x (xs ++ zs) h)
+
 -- one item more
 pub map_push : {A B : Type 0} (g : A → B) (xs ys : List A) (y : A) (zs : List B) → ys ≡ xs ++ y ∷ [] → map g xs ≡ zs → map g ys ≡ zs ++ g y ∷ []
 map_push g xs ys y zs e h = ap (map g) e ∙ (map-append g xs (y ∷ []) ∙ ap (λ us. us ++ g y ∷ []) h)
@@ -78,6 +97,10 @@ index_push g xs ys y e h i =
 pub all_push : {A : Type 0} (P : A → Type 0) (xs ys : List A) (y : A) → ys ≡ xs ++ y ∷ [] → All P xs → P y → All P ys
 all_push P xs ys y e h p = subst (All P) (sym e) (All-push P xs y h p)
 
+-- as many as there are numbers
+pub long_as : {A : Type 0} (g : A → ℕ) (n : ℕ) (xs : List A) → map g xs ≡ range_with_len 0 n → length xs ≡ n
+long_as g n xs e = sym (long_map g xs) ∙ (ap length e ∙ length-range_with_len 0 n)
+
 -- as many seats as numbers
 pub numbers_long : (n : ℕ) (seats : List SeatView) → map (λ (s : SeatView). s.number) seats ≡ range_with_len 0 n → length seats ≡ n
 numbers_long n seats e = sym (long_map (λ (s : SeatView). s.number) seats) ∙ (ap length e ∙ length-range_with_len 0 n)
@@ -93,6 +116,19 @@ module _ {W : Type 0} (seat : W → SeatView) (index of : W → ℕ) (done : W �
 
   abbrev Ran : W → W → Type 0
   Ran w v = HasRun f links n (index w) (seat w) (index v) (done v) (seat v)
+
+  -- where the first ones ran and the others were done, all have run
+  pub first_ran : (busy : ℕ) (ws firsts vs others : List W) → AreBusy links n busy → ws ≡ firsts ++ others → All (λ w. IsReady n id (of w) (seat w)) ws → All (λ w. done w ≡ true → busy ≤ index w) ws
+      → Pairs Ran firsts vs → Pairs Ran ws (vs ++ others)
+  first_ran busy ws firsts vs others h is ready idle ran =
+      let ready' = all_last (λ w. IsReady n id (of w) (seat w)) firsts others (subst (All (λ w. IsReady n id (of w) (seat w))) is ready) in
+      let idle' = all_last (λ w. done w ≡ true → busy ≤ index w) firsts others (subst (All (λ w. done w ≡ true → busy ≤ index w)) is idle) in
+      subst (λ us. Pairs Ran us (vs ++ others)) (sym is) (pairs_front Ran firsts vs others ran (λ k d lt.
+      let w = get_or others k d in record {
+        index_is = refl;
+        seat_is = refl;
+        worked = λ e. idle_work links n f busy (index w) (seat w).entries h (idle' k d lt e) (ready' k d lt).empty;
+      }))
 
   -- the seats have the numbers that they had, and are of the cells that they were of
   pub numbers_stay : (ws vs : List W) → Pairs Ran ws vs → map (λ (s : SeatView). s.number) (map seat vs) ≡ map (λ (s : SeatView). s.number) (map seat ws)

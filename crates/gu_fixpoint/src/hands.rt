@@ -1,10 +1,11 @@
 //! Workers in a list, one for each seat.
-ghost use Rattle.std.specs.Prelude.{◌≡◌, ◌<◌, true, All, IfOk, OnOk, length, map};
+ghost use Rattle.std.specs.Prelude.{◌≡◌, ◌<◌, ◌≤◌, true, All, IfOk, OnOk, length, map};
 ghost use Rattle.std.specs.List.{range_with_len};
 ghost use Rattle.gu_cells.specs.Record.{at};
 ghost use Rattle.gu_links.specs.Solutions.{AllBelong, IsSystem, Solves};
-ghost use Rattle.gu_fixpoint.specs.Hands.{IsReady, HasRun, Pairs};
+ghost use Rattle.gu_fixpoint.specs.Hands.{AreBusy, IsReady, HasRun, Pairs};
 
+use crate::crew::Crew;
 use gu_cells::{Ceilings, CellSeat, Cells};
 use gu_links::System;
 use gu_types::List;
@@ -20,26 +21,29 @@ pub(crate) struct Hand<N: Ceilings> {
     pub(crate) done: bool,
 }
 
-/// A worker for each seat. `AllocError` only where memory is refused.
+/// A worker for each seat. Those that can have no work are done. `AllocError` only where memory is
+/// refused.
 pub(crate) fn seat_all<N: Ceilings>(
     alloc: Global,
     seats: List<CellSeat<N>>,
-    of: u32,
+    crew: Crew,
 ) -> Result<Vec<Hand<N>>, AllocError>
-    requires few { length seats ≡ of }
+    requires few { length seats ≡ crew.workers }
     ensures seats { IfOk result (λ hands. map (λ h. h.worker.seat) hands.items ≡ seats) }
-    ensures indices { IfOk result (λ hands. map (λ h. h.worker.index) hands.items ≡ range_with_len 0 of) }
-    ensures of { IfOk result (λ hands. All (λ h. h.worker.of ≡ of) hands.items) }
+    ensures indices { IfOk result (λ hands. map (λ h. h.worker.index) hands.items ≡ range_with_len 0 crew.workers) }
+    ensures of { IfOk result (λ hands. All (λ h. h.worker.of ≡ crew.workers) hands.items) }
+    ensures done { IfOk result (λ hands. All (λ h. h.done ≡ true → crew.busy ≤ h.worker.index) hands.items) }
 {
     let mut hands = Vec::new(alloc);
     'seats: for seat in seats.into_vec() {
         let Ok(index) = u32::try_from(hands.len()) else {
             return Err(AllocError);
         };
+        let of = crew.workers;
         let worker = Worker { index, of, seat };
         hands.push(Hand {
             worker,
-            done: false,
+            done: index >= crew.busy,
         })?;
     }
     Ok(hands)
@@ -122,24 +126,29 @@ fn run_all<N: Ceilings + Send + Sync, G: Gate>(
     );
 }
 
-/// The same, of a vector.
+/// The runs of those that can have work, in threads. The others are done, and stay as they are.
 pub(crate) fn run_list<N: Ceilings + Send + Sync, G: Gate>(
     rt: &(impl Threads + Sync),
     alloc: Global,
     s: &System<'_>,
     cells: &Cells<'_, N>,
     hands: &mut Vec<Hand<N>>,
-    workers: u32,
+    crew: Crew,
     gate: &G,
 )
     requires system { IsSystem N.facts N.longs s.now.cells s.now.links }
     requires facts { (s.now.facts.now ≡ N.facts) × (s.now.longs ≡ N.longs) }
-    requires some { 0 < workers }
-    requires ready { All (λ h. IsReady workers cells.now.id h.worker.of h.worker.seat) hands.old.items }
+    requires some { 0 < crew.workers }
+    requires all { length hands.old.items ≡ crew.workers }
+    requires few { crew.busy ≤ crew.workers }
+    requires busy { AreBusy s.now.links crew.workers crew.busy }
+    requires ready { All (λ h. IsReady crew.workers cells.now.id h.worker.of h.worker.seat) hands.old.items }
+    requires done { All (λ h. h.done ≡ true → crew.busy ≤ h.worker.index) hands.old.items }
     requires cells { cells.now.cells ≡ s.now.cells }
     requires belong { AllBelong N.facts (at N.ceilings) }
     requires ceilings { Solves N.facts s.now.links (at N.ceilings) }
-    ensures { Pairs (λ a b. HasRun N.facts s.now.links workers a.worker.index a.worker.seat b.worker.index b.done b.worker.seat) hands.old.items hands.new.items }
+    ensures { Pairs (λ a b. HasRun N.facts s.now.links crew.workers a.worker.index a.worker.seat b.worker.index b.done b.worker.seat) hands.old.items hands.new.items }
 {
-    run_all(rt, alloc, s, cells, hands.as_mut_slice(), workers, gate);
+    let (first, _) = hands.as_mut_slice().split_at_mut(crew.busy as usize);
+    run_all(rt, alloc, s, cells, first, crew.workers, gate);
 }

@@ -4,6 +4,7 @@ ghost use Rattle.gu_cells.specs.Record.{at};
 ghost use Rattle.gu_links.specs.Solutions.{IsOf, IsSystem, Least};
 ghost use Rattle.gu_fixpoint.specs.Track.{IsTrack};
 
+use crate::crew::{Crew, busy_workers};
 use crate::hands::{run_list, seat_all, unseat};
 use gu_cells::{Ceilings, Cells, Track};
 use gu_contents::Content;
@@ -46,8 +47,10 @@ fn together<N: Ceilings + Send + Sync, G: Gate>(
     ensures track { IfOk result (λ r. IsTrack N.facts N.longs s.now.links workers (at r.0) r.1) }
 {
     let (cells, seats) = Cells::<N>::open(alloc, s.facts, &s.longs, s.cells, workers)?;
-    let mut hands = seat_all(alloc, seats, workers)?;
-    run_list(rt, alloc, s, &cells, &mut hands, workers, gate);
+    let busy = busy_workers(s, workers);
+    let crew = Crew { workers, busy };
+    let mut hands = seat_all(alloc, seats, crew)?;
+    run_list(rt, alloc, s, &cells, &mut hands, crew, gate);
     let seats = unseat(alloc, hands)?;
     match cells.close(seats) {
         Ok(solved) => Ok(solved),

@@ -41,10 +41,10 @@ fn is_share(s: &System<'_>, index: u32, of: u32, link: usize) -> bool
     requires of { 0 < of }
     ensures { (give : Content) (to : ℕ) → slice_get s.now.links link ≡ Some (Root give to) → link % of ≡ index → result ≡ true }
 {
-    if link % of as usize != index as usize {
+    if !is_root(&s.links.as_slice()[link]) {
         return false;
     }
-    is_root(&s.links.as_slice()[link])
+    link % of as usize == index as usize
 }
 
 /// Serves a link, if it is a root of the worker's share. `AllocError` only where memory is refused.

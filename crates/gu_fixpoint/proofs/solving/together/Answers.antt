@@ -2,12 +2,15 @@ use Rattle.std.proofs.Common.{◌≡◌, ◌∙◌, All, map, length, subst, sym
 use Rattle.std.specs.List.{range_with_len}
 use Rattle.std.specs.Prelude.{slice_get}
 use Rattle.gu_cells.specs.Views.{SeatView}
-use Rattle.gu_fixpoint.proofs.Running.{long_map, numbers_long, all_ready, numbers_stay, cells_stay, all_worked, unmapped, mapped, is_track, track_is_least}
+use Rattle.gu_fixpoint.proofs.Running.{long_map, long_as, numbers_long, all_ready, numbers_stay, cells_stay, all_worked, unmapped, mapped, is_track, track_is_least}
 use Rattle.gu_fixpoint.proofs.Bounding.{are_of}
 use Rattle.gu_fixpoint.proofs.solving.together.Goals as goal
 
 pub seat_all-requires : goal.seat_all-requires
 seat_all-requires g c = record { few = numbers_long c.args.workers c.in_ok-cells.seats c.in_ok-cells.ensures.numbers }
+
+pub run_list-requires-clause-all : goal.run_list-requires-clause-all
+run_list-requires-clause-all g c κs within = long_as (λ w. w.worker.index) c.args.workers c.in_ok-hands.hands.items c.in_ok-hands.ensures.indices
 
 pub run_list-requires-clause-ready : goal.run_list-requires-clause-ready
 run_list-requires-clause-ready g c κs within = let h = c.in_ok-hands.ensures in let o = c.in_ok-cells.ensures in
