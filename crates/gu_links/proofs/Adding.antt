@@ -1,10 +1,9 @@
 -- Links are listed one after another.
 use Rattle.std.proofs.Common.{◌≡◌, ◌∙◌, ℕ, ◌+◌, ◌<◌, ◌≤◌, ◌||◌, Bool, true, false, cond, Option, Some, None, List, [], ◌∷◌, ◌++◌, length, get_or, take, sym, ap, subst, ⊎_elim, arith}
 use Rattle.std.specs.Prelude.{All, Contains, IfSome, nat_eq}
-use Rattle.std.proofs.lemmas.Bool.{cases_lt, eqb-true, eq-eqb}
+use Rattle.std.proofs.lemmas.Bool.{cases_lt}
 use Rattle.std.proofs.lemmas.List.Elements.{All-nil, All-append, All-cons, All-contains, Contains-get_or}
-use Rattle.std.proofs.lemmas.List.Folds.{list_any-append, list_any_at}
-use Rattle.std.proofs.lemmas.Map.Views.{Contains-from_any}
+use Rattle.std.proofs.lemmas.List.Folds.{list_any-append}
 use Rattle.gu_contents.specs.declared.facts.Facts.{Facts}
 use Rattle.gu_links.specs.declared.link.Link.{Link}
 use Rattle.gu_links.specs.declared.index.Cells.{Cells}
@@ -19,17 +18,11 @@ use Rattle.gu_contents.proofs.Heights.{least_in_range}
 use Rattle.gu_links.specs.declared.link.Link.TheVariants as L
 use Rattle.gu_links.specs.Cells.{own_cells, slot_cell}
 use Rattle.gu_links.specs.Listed.{IsPlace, IsListAt, IsBelowType, slot_place, type_place}
+use Rattle.gu_links.proofs.Distinct.{has_from, from_has}
 use Rattle.gu_links.proofs.Firsts.{has_once}
 use Rattle.gu_links.proofs.Sized.{least_slots}
 use Rattle.gu_links.proofs.Within.{slot_least_within}
 use Rattle.std.proofs.lemmas.List.{take_more}
-
--- an element of a list is found there
-has_from : (xs : List ℕ) (x : ℕ) → Contains xs x → has xs x ≡ true
-has_from xs x h = list_any_at (λ (d : ℕ). nat_eq d x) xs h.0 x h.1 (eq-eqb (get_or xs h.0 x) x h.2)
-
-pub has_is : (xs : List ℕ) (x : ℕ) → has xs x ≡ true → Contains xs x
-has_is xs x h = Contains-from_any {eq = λ q y. nat_eq y q} (λ q y e. sym (eqb-true y q e)) x xs h
 
 -- a list with a number more at its end, if at all, has what it had, and numbers that are as small
 more_has : (b : Bool) (xs : List ℕ) (n k : ℕ) → has xs k ≡ true → has (cond b (xs ++ n ∷ []) xs) k ≡ true
@@ -116,7 +109,7 @@ below_within f count _ room h place e = absurd cc
 -- the cells on which a link rests whatever they have, each once
 once_contains : (link : Link) (c : ℕ) → Contains (fixed_reads link) c → Contains (fixed_once link) c
 unfolding fixed_once
-once_contains link c h = has_is (once_onto [] (fixed_reads link)) c (has_once [] (fixed_reads link) c ∙ has_from (fixed_reads link) c h)
+once_contains link c h = from_has (once_onto [] (fixed_reads link)) c (has_once [] (fixed_reads link) c ∙ has_from (fixed_reads link) c h)
 
 pub all_once : (count : ℕ) (link : Link) → All (λ c. c < count) (fixed_reads link) → All (λ c. c < count) (fixed_once link)
 unfolding fixed_once
@@ -124,7 +117,7 @@ all_once count link h =
     λ k d lt.
     let cells : List ℕ = once_onto [] (fixed_reads link) in
     let in_once = has_from cells (get_or cells k d) (Contains-get_or cells k d lt) in
-    All-contains (λ c. c < count) (fixed_reads link) (get_or cells k d) h (has_is (fixed_reads link) (get_or cells k d) (sym (has_once [] (fixed_reads link) (get_or cells k d)) ∙ in_once))
+    All-contains (λ c. c < count) (fixed_reads link) (get_or cells k d) h (from_has (fixed_reads link) (get_or cells k d) (sym (has_once [] (fixed_reads link) (get_or cells k d)) ∙ in_once))
 
 -- one more of some cells
 pub all_more : (P : ℕ → Type 0) (xs : List ℕ) (i d : ℕ) → i < length xs → All P (take i xs) → P (get_or xs i d) → All P (take (i + 1) xs)

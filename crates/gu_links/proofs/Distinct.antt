@@ -1,25 +1,23 @@
 -- Lists in which each number stands once, and lists that rise.
-use Rattle.std.proofs.Common.{◌≡◌, ◌∙◌, ℕ, zero, suc, ◌<◌, ◌≤◌, ◌||◌, Bool, true, false, cond, List, [], ◌∷◌, ◌++◌, Some, map, get_or, take, refl, sym, subst, ⊎_elim, arith}
+use Rattle.std.proofs.Common.{◌≡◌, ◌∙◌, ℕ, zero, suc, ◌<◌, ◌≤◌, ◌||◌, Bool, true, false, cond, List, [], ◌∷◌, ◌++◌, Some, map, get_or, take, refl, sym, subst, arith}
 use Rattle.std.specs.Prelude.{All, Contains, flat_map, nat_eq, slice_get}
 use Rattle.std.specs.List.{filter as keep}
-use Rattle.std.proofs.lemmas.Bool.{both_ways, cond_both, eq-eqb, ne_eqb, eqb-true, false_from_ne_true, or_cases, or_from, or_parts}
+use Rattle.std.proofs.lemmas.Bool.{both_ways, cond_both, eq-eqb, ne_eqb, eqb-true, false_from_ne_true, or_from, or_parts}
 use Rattle.std.proofs.lemmas.Option.{none-some}
-use Rattle.std.proofs.lemmas.List.Elements.{All-head, All-tail, All-cons, All-nil, All-append, All-contains, Contains-append_right, Contains-get_or}
+use Rattle.std.proofs.lemmas.List.Elements.{All-head, All-tail, All-cons, All-nil, All-append, All-contains, Contains-get_or}
 use Rattle.std.proofs.lemmas.List.Folds.{list_any-append, list_any_at, list_any_none}
 use Rattle.std.proofs.lemmas.Map.Keys.{any_passes_from_place}
+use Rattle.std.proofs.lemmas.Map.Views.{Contains-from_any}
 use Rattle.gu_rec.specs.Keys.{run}
 use Rattle.gu_links.specs.Kept.{has, once_onto}
 use Rattle.gu_links.proofs.Firsts.{IsRising, has_once}
 
+-- a number that is found in a list stands in it, and the other way round
 pub has_from : (xs : List ℕ) (c : ℕ) → Contains xs c → has xs c ≡ true
 has_from xs c h = list_any_at (λ d. nat_eq d c) xs h.0 c h.1 (eq-eqb (get_or xs h.0 c) c h.2)
 
 pub from_has : (xs : List ℕ) (c : ℕ) → has xs c ≡ true → Contains xs c
-from_has [] c e = absurd (let bad : false ≡ true = e in cc)
-from_has (x ∷ xs) c e = ⊎_elim
-    (λ (h : nat_eq x c ≡ true). let there : Contains (x ∷ xs) c = (0, omega arith, eqb-true x c h) in there)
-    (λ (h : has xs c ≡ true). Contains-append_right (x ∷ []) xs c (from_has xs c h))
-    (or_cases (nat_eq x c) (has xs c) e)
+from_has xs c h = Contains-from_any {eq = λ q y. nat_eq y q} (λ q y e. sym (eqb-true y q e)) c xs h
 
 -- each number stands once
 abbrev pub IsOnce : List ℕ → Type 0

@@ -2,7 +2,7 @@
 use Rattle.std.proofs.Common.{◌≡◌, ◌∙◌, ℕ, zero, suc, ◌+◌, ◌<◌, ◌≤◌, ◌-◌, ◌&&◌, ◌||◌, Bool, true, false, cond, List, [], ◌∷◌, ◌++◌, Option, Some, None, map, length, get_or, take, drop, refl, sym, ap, subst, arith}
 use Rattle.std.specs.Prelude.{All, flat_map, nat_eq, nat_lt, not, slice_index, slice_get}
 use Rattle.std.specs.List.{filter as keep}
-use Rattle.std.proofs.lemmas.Bool.{lt-ltb, le-ltb, and_parts, eqb-true}
+use Rattle.std.proofs.lemmas.Bool.{cond_both, lt-ltb, le-ltb, and_parts, eqb-true}
 use Rattle.std.proofs.lemmas.List.{at_drop_more, at_drop_all, take_rest}
 use Rattle.std.proofs.lemmas.List.Elements.{All-head, All-tail, All-cons, All-nil, All-map}
 use Rattle.std.specs.List.Sorted.{IsNonDecreasingBy}
@@ -12,7 +12,7 @@ use Rattle.gu_contents.specs.declared.facts.Facts.{Facts}
 use Rattle.gu_links.specs.declared.reach.Reach.{Reach}
 use Rattle.gu_links.specs.Cells.{slot_cell, out_cell, out_cells, is_least, results_of}
 use Rattle.gu_links.specs.Over.{has_slot, names}
-use Rattle.gu_links.specs.Kept.{has, once_onto, in_reach, over_reach, types_below, functions_below, callable}
+use Rattle.gu_links.specs.Kept.{has, once_onto, is_below, in_reach, over_reach, candidates, types_below, functions_below, callable}
 use Rattle.std.specs.List.{list_any}
 use Rattle.gu_contents.specs.Belongs.{IsFunc}
 use Rattle.gu_links.specs.declared.link.Link.{Link}
@@ -20,6 +20,7 @@ use Rattle.gu_links.specs.declared.reach.Callees.TheVariants.{Under}
 use Rattle.gu_links.proofs.Lists.{run_below}
 use Rattle.gu_links.proofs.Reaching.{and_false}
 use Rattle.gu_links.proofs.Walks.{append_nil, types_done, all_types_in, functions_done, all_functions_in}
+use Rattle.gu_links.specs.Index.{IsHead}
 use Rattle.gu_links.specs.Next.{first_of, is_rest, first_slot, first_result, SlotsBefore, ResultsBefore}
 
 module _ (p : ℕ → Bool) where
@@ -123,11 +124,20 @@ module _ (p : ℕ → Bool) where
   rising_from first zero = λ i j d le lt. absurd (omega arith)
   rising_from first (suc count) = rising_step first (keep p (run (suc first) count)) (lower first (suc first) count (omega arith)) (rising_from (suc first) count) (p first)
 
+  one_rises : (x : ℕ) → IsNonDecreasingBy (λ (n : ℕ). n) (x ∷ [])
+  one_rises x = rising_cons x [] (All-nil (λ s. x ≤ s)) (λ i j d le lt. absurd (omega arith))
+
   pub kept_rises : (items : List ℕ) (n : ℕ) → items ≡ keep p (run 0 n) → IsNonDecreasingBy (λ (n : ℕ). n) items
   kept_rises items n e = subst (IsNonDecreasingBy (λ (n : ℕ). n)) (sym e) (rising_from 0 n)
 
+pub candidates_rise : (f : Facts) (reach : Reach) (items : List ℕ) → items ≡ candidates f reach → IsNonDecreasingBy (λ (n : ℕ). n) items
+candidates_rise f reach items e =
+    let test = λ (s : ℕ). is_least f.types s && is_below f.types reach.head s in
+    subst (IsNonDecreasingBy (λ (n : ℕ). n)) (sym e)
+    (cond_both (nat_eq reach.depth 0) (reach.head ∷ []) (types_below f reach.head) (IsNonDecreasingBy (λ (n : ℕ). n)) (λ _. one_rises test reach.head) (λ _. kept_rises test (types_below f reach.head) (length (types_of f.types)) refl))
+
 -- the next slot of the types of a reach
-module _ (f : Facts) (reach : Reach) (slot : ℕ) (fixed : List ℕ) (first : ℕ) where
+module _ (f : Facts) (reach : Reach) (head : IsHead f reach) (slot : ℕ) (fixed : List ℕ) (first : ℕ) where
   abbrev IsOwn : ℕ → Type 0
   IsOwn t = (t < length (types_of f.types)) × (is_least f.types t ≡ true)
 
@@ -138,16 +148,16 @@ module _ (f : Facts) (reach : Reach) (slot : ℕ) (fixed : List ℕ) (first : �
   slots_past n types before own less k d lt e =
       before_rest fixed first _ (before (get_or types k d) slot (less k d lt) (own k d lt).0 (own k d lt).1 (and_parts (has_slot f slot (get_or types k d)) _ e).0)
 
-  all_own : (items : List ℕ) → items ≡ types_below f reach.head → All IsOwn items
-  all_own items e = subst (All IsOwn) (sym e) (all_types_in f reach.head)
+  all_own : (items : List ℕ) → items ≡ candidates f reach → All IsOwn items
+  all_own items e = subst (All IsOwn) (sym e) (all_types_in f reach head)
 
-  pub own_part : (items : List ℕ) (from : ℕ) → items ≡ types_below f reach.head → All IsOwn (take (length items - from) (drop from items))
+  pub own_part : (items : List ℕ) (from : ℕ) → items ≡ candidates f reach → All IsOwn (take (length items - from) (drop from items))
   own_part items from e = all_part IsOwn from items (all_own items e)
 
-  over_types : (items : List ℕ) → items ≡ types_below f reach.head → first_slot f reach slot (is_rest fixed first) items ≡ first_of (is_rest fixed first) (map (λ t. slot_cell f t slot) (over_reach f (Some reach) slot))
-  over_types items e = ap (first_slot f reach slot (is_rest fixed first)) e ∙ ap (λ (xs : List ℕ). first_of (is_rest fixed first) (map (λ t. slot_cell f t slot) xs)) (types_done f reach slot)
+  over_types : (items : List ℕ) → items ≡ candidates f reach → first_slot f reach slot (is_rest fixed first) items ≡ first_of (is_rest fixed first) (map (λ t. slot_cell f t slot) (over_reach f (Some reach) slot))
+  over_types items e = ap (first_slot f reach slot (is_rest fixed first)) e ∙ ap (λ (xs : List ℕ). first_of (is_rest fixed first) (map (λ t. slot_cell f t slot) xs)) (types_done f reach slot head)
 
-  pub slot_next : (items : List ℕ) (from n : ℕ) → items ≡ types_below f reach.head → SlotsBefore f first n → All (λ t. t < n) (take from items)
+  pub slot_next : (items : List ℕ) (from n : ℕ) → items ≡ candidates f reach → SlotsBefore f first n → All (λ t. t < n) (take from items)
       → first_slot f reach slot (is_rest fixed first) (take (length items - from) (drop from items)) ≡ first_of (is_rest fixed first) (map (λ t. slot_cell f t slot) (over_reach f (Some reach) slot))
   slot_next items from n e before less =
       ap (first_slot f reach slot (is_rest fixed first)) (take_rest items from)
@@ -156,7 +166,7 @@ module _ (f : Facts) (reach : Reach) (slot : ℕ) (fixed : List ℕ) (first : �
 
   pub no_slot : SlotsBefore f first (length (types_of f.types)) → None ≡ first_of (is_rest fixed first) (map (λ t. slot_cell f t slot) (over_reach f (Some reach) slot))
   no_slot before =
-      let items : List ℕ = types_below f reach.head in
+      let items : List ℕ = candidates f reach in
       let own : All IsOwn (take (length items) items) = all_take IsOwn (length items) items (all_own items refl) in
       sym (slot_end f reach slot (is_rest fixed first) items (length items) (omega arith))
       ∙ sym (slot_skip f reach slot (is_rest fixed first) items (length items) (slots_past (length (types_of f.types)) (take (length items) items) before own (λ k d lt. (own k d lt).0)))

@@ -12,6 +12,7 @@ pub mod Climbing
 pub mod Reached
 pub mod Once
 pub mod Tables
+pub mod Nearest
 pub mod Walks
 pub mod Zips
 pub mod Applying
@@ -29,3 +30,4 @@ pub mod Ways
 pub mod Distinct
 pub mod Asking
 pub mod Onward
+pub mod Regained

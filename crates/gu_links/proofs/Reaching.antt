@@ -207,7 +207,7 @@ pub and_true : (b : Bool) → (b && true) ≡ b
 and_true true = refl
 and_true false = refl
 
-only : (p : ℕ → Bool) (h first count : ℕ) → first ≤ h → h < first + count → keep (λ g. p g && nat_eq h g) (run first count) ≡ cond (p h) (h ∷ []) []
+pub only : (p : ℕ → Bool) (h first count : ℕ) → first ≤ h → h < first + count → keep (λ g. p g && nat_eq h g) (run first count) ≡ cond (p h) (h ∷ []) []
 only p h first zero le lt = absurd (omega arith)
 only p h first (suc count) le lt = ⊎_elim
     (λ (e : first ≡ h).

@@ -1,8 +1,8 @@
 -- Walks over the types and functions below a type.
 use Rattle.std.proofs.Common.{◌≡◌, ℕ, zero, suc, ◌+◌, ◌<◌, ◌≤◌, ◌&&◌, Bool, true, false, cond, List, [], ◌∷◌, ◌++◌, Option, Some, None, map, length, get_or, take, is_some, append_assoc, sym, refl, ap, ◌∙◌, subst, ⊎_elim, arith}
-use Rattle.std.specs.Prelude.{All, flat_map, slice_index}
+use Rattle.std.specs.Prelude.{All, flat_map, nat_eq, slice_index}
 use Rattle.std.specs.List.{filter as keep, list_any}
-use Rattle.std.proofs.lemmas.Bool.{cases_Bool, and_parts, and_from}
+use Rattle.std.proofs.lemmas.Bool.{cases_Bool, cond_both, and_parts, and_from, eqb-true}
 use Rattle.std.proofs.lemmas.List.{take_all}
 use Rattle.std.proofs.lemmas.List.Elements.{All-head, All-tail, All-cons, All-nil, All-filter, filter_passes, filter_more, filter-append}
 use Rattle.gu_types.specs.declared.types.HeapType.TheVariants as H
@@ -17,7 +17,9 @@ use Rattle.gu_links.specs.declared.reach.Reach.{Reach}
 use Rattle.gu_links.specs.declared.reach.Callees.TheVariants.{Under}
 use Rattle.gu_links.specs.Cells.{is_least}
 use Rattle.gu_links.specs.Over.{has_slot, names}
-use Rattle.gu_links.specs.Kept.{is_below, in_reach, over_reach, types_below, functions_below, callable}
+use Rattle.gu_links.specs.Kept.{is_below, in_reach, over_reach, candidates, types_below, functions_below, callable}
+use Rattle.gu_links.specs.Index.{IsHead}
+use Rattle.gu_links.proofs.Nearest.{head_alone}
 use Rattle.gu_links.proofs.Lists.{run_below, all_front, all_back}
 use Rattle.gu_links.proofs.Reaching.{and_false, keep_none}
 
@@ -124,17 +126,21 @@ module _ (f : Facts) where
   tests false b true i up = refl
   tests false b false i up = refl
 
-  pub types_done : (r : Reach) (slot : ℕ) → keep (λ t. has_slot f slot t && in_reach f (Some r) t) (types_below f r.head) ≡ over_reach f (Some r) slot
-  types_done r slot =
+  below_done : (r : Reach) (slot : ℕ) → keep (λ t. has_slot f slot t && in_reach f (Some r) t) (types_below f r.head) ≡ over_reach f (Some r) slot
+  below_done r slot =
       fuse (λ t. has_slot f slot t && in_reach f (Some r) t) (λ s. is_least f.types s && is_below f.types r.head s) (λ s. has_slot f slot s && (is_least f.types s && in_reach f (Some r) s))
       (λ s. tests (is_least f.types s) (is_below f.types r.head s) (has_slot f slot s) (in_reach f (Some r) s) (in_below r s)) (run 0 (length (types_of f.types)))
+
+  pub types_done : (r : Reach) (slot : ℕ) → IsHead f r → keep (λ t. has_slot f slot t && in_reach f (Some r) t) (candidates f r) ≡ over_reach f (Some r) slot
+  types_done r slot head = cond_both (nat_eq r.depth 0) (r.head ∷ []) (types_below f r.head) (λ (ts : List ℕ). keep (λ t. has_slot f slot t && in_reach f (Some r) t) ts ≡ over_reach f (Some r) slot)
+      (λ e. head_alone f r slot head (eqb-true r.depth 0 e)) (λ e. below_done r slot)
 
   pub nothing_reached : (slot : ℕ) → over_reach f None slot ≡ []
   nothing_reached slot = keep_none (λ s. has_slot f slot s && (is_least f.types s && false)) (run 0 (length (types_of f.types))) (λ s. ap (λ b. has_slot f slot s && b) (and_false (is_least f.types s)) ∙ and_false (has_slot f slot s))
 
-  pub walked : (r : Reach) (slot : ℕ) (items : List ℕ) (i : ℕ) → items ≡ types_below f r.head → length items ≤ i
+  pub walked : (r : Reach) (slot : ℕ) (items : List ℕ) (i : ℕ) → IsHead f r → items ≡ candidates f r → length items ≤ i
       → keep (λ t. has_slot f slot t && in_reach f (Some r) t) (take i items) ≡ over_reach f (Some r) slot
-  walked r slot items i e le = ap (keep (λ t. has_slot f slot t && in_reach f (Some r) t)) (take_all i items le ∙ e) ∙ types_done r slot
+  walked r slot items i head e le = ap (keep (λ t. has_slot f slot t && in_reach f (Some r) t)) (take_all i items le ∙ e) ∙ types_done r slot head
 
   -- the functions that can be called are those below its head that are in it
   call_tests : (n b i : Bool) → (i ≡ true → b ≡ true) → cond (n && b) i false ≡ (n && i)
@@ -152,14 +158,18 @@ module _ (f : Facts) where
       → keep (λ g. in_reach f (Some r) (slice_index f.funcs g)) (take i items) ≡ callable f links (Under r)
   called_all links r items i e le = ap (keep (λ g. in_reach f (Some r) (slice_index f.funcs g))) (take_all i items le ∙ e) ∙ functions_done links r
 
-  pub all_types_in : (h : ℕ) → All (λ t. (t < length (types_of f.types)) × (is_least f.types t ≡ true)) (types_below f h)
-  all_types_in h k d lt = (
+  all_below_in : (h : ℕ) → All (λ t. (t < length (types_of f.types)) × (is_least f.types t ≡ true)) (types_below f h)
+  all_below_in h k d lt = (
     All-filter (λ s. is_least f.types s && is_below f.types h s) (λ s. s < length (types_of f.types)) (run 0 (length (types_of f.types))) (run_below 0 (length (types_of f.types)) (length (types_of f.types)) (omega arith)) k d lt,
     (and_parts (is_least f.types _) _ (filter_passes (λ s. is_least f.types s && is_below f.types h s) (run 0 (length (types_of f.types))) k d lt)).0,
   )
 
-  pub item_in : (h : ℕ) (items : List ℕ) (i : ℕ) → items ≡ types_below f h → i < length items → (get_or items i 0 < length (types_of f.types)) × (is_least f.types (get_or items i 0) ≡ true)
-  item_in h items i e lt = subst (λ (ts : List ℕ). All (λ (t : ℕ). (t < length (types_of f.types)) × (is_least f.types t ≡ true)) ts) (sym e) (all_types_in h) i 0 lt
+  pub all_types_in : (r : Reach) → IsHead f r → All (λ t. (t < length (types_of f.types)) × (is_least f.types t ≡ true)) (candidates f r)
+  all_types_in r head = let P = λ (t : ℕ). (t < length (types_of f.types)) × (is_least f.types t ≡ true) in
+      cond_both (nat_eq r.depth 0) (r.head ∷ []) (types_below f r.head) (All P) (λ e. All-cons P r.head [] (head.in_range, head.least) (All-nil P)) (λ e. all_below_in r.head)
+
+  pub item_in : (r : Reach) (items : List ℕ) (i : ℕ) → IsHead f r → items ≡ candidates f r → i < length items → (get_or items i 0 < length (types_of f.types)) × (is_least f.types (get_or items i 0) ≡ true)
+  item_in r items i head e lt = subst (λ (ts : List ℕ). All (λ (t : ℕ). (t < length (types_of f.types)) × (is_least f.types t ≡ true)) ts) (sym e) (all_types_in r head) i 0 lt
 
   -- what holds of all types of a reach that have a slot holds of one
   pub one_of : (Q : ℕ → Type 0) (r : Option Reach) (slot t : ℕ) → All Q (over_reach f r slot) → t < length (types_of f.types) → is_least f.types t ≡ true → (has_slot f slot t && in_reach f r t) ≡ true → Q t

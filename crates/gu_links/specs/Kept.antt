@@ -80,6 +80,10 @@ over_reach f reach slot = filter (λ s. has_slot f slot s && (is_least f.types s
 abbrev pub types_below : Facts → ℕ → List ℕ
 types_below f h = filter (λ s. is_least f.types s && is_below f.types h s) (run 0 (length (types_of f.types)))
 
+-- the types among which those of a reach are: its head alone where the reach is not deeper, else all at or below it
+abbrev pub candidates : Facts → Reach → List ℕ
+candidates f reach = if nat_eq reach.depth 0 then reach.head ∷ [] else types_below f reach.head
+
 -- the functions that can be called by reference and whose type is at or below another
 abbrev pub functions_below : Facts → List Link → ℕ → List ℕ
 functions_below f links h = filter (λ g. list_any (names g) links && is_below f.types h (slice_index f.funcs g)) (run 0 (length f.funcs))

@@ -45,7 +45,8 @@ ReadsBelow f links cell up (L.SlotCopy target to_ty source from_ty) = ReadsSlot 
 ReadsBelow f links cell up (L.CallBy callee ty operands results) = ReadsResult f links ty cell up
 ReadsBelow f links cell up link = ⊥
 
--- a link reads a cell by way of a number: 0 where it reads it whatever the cells have
+-- A link reads a cell by way of a number: by way of 0 where it reads the cell by its number, whatever the cells have, and
+-- by the way that is told above where it reads it as a slot or a result of the types at or below one, which may be 0 too
 abbrev pub IsReadBy : Facts → List Link → ℕ → ℕ → Link → Type 0
 IsReadBy f links cell up link = ((up ≡ 0) × Contains (fixed_reads link) cell) ⊎ ReadsBelow f links cell up link
 

@@ -1,11 +1,12 @@
 //! What a link asks for on what is known.
-ghost use Rattle.std.specs.Prelude.{ℕ, ◌≡◌, ◌<◌, ◌∷◌, [], All, Contains, IfOk, IfSome, length};
+ghost use Rattle.std.specs.Prelude.{ℕ, ◌≡◌, ◌<◌, ◌∷◌, [], All, Contains, IfOk, IfSome, MatchOption, length};
 ghost use Rattle.gu_contents.specs.Belongs.{Belongs};
 ghost use Rattle.gu_links.specs.Gives.{Contents};
+ghost use Rattle.gu_links.specs.Applied as applied;
 ghost use Rattle.gu_links.specs.Gives as g;
 ghost use Rattle.gu_links.specs.Index.{IsHead, AreCallees};
 ghost use Rattle.gu_links.specs.Over.{over, callees};
-ghost use Rattle.gu_links.specs.Solutions.{Fits, IsType, IsSystem};
+ghost use Rattle.gu_links.specs.Solutions.{Fits, IsType};
 ghost use Rattle.gu_links.specs.Known.{Has, Item, IsKnown, IsEnough, cells_of, link_at};
 ghost use Rattle.gu_links.specs.Kept as kept;
 
@@ -14,7 +15,7 @@ use crate::convert::{externalised, internalised, non_null};
 use crate::known::content_at;
 use crate::link::Link;
 use crate::reach::{Callees, Reach, callees_of, reach_of};
-use crate::slots::{Get, from_slots, into_slots, joined};
+use crate::slots::{Get, Put, from_slots, into_slots, joined};
 use crate::system::System;
 use gu_contents::{Content, equal, filter, is_null, minus, pack, test};
 use gu_types::List;
@@ -56,47 +57,94 @@ pub(crate) fn called(s: &System<'_>, callee: usize, ty: u32, known: &[(usize, Co
     callees_of(s.facts, content_at(known, 0, callee), ty)
 }
 
-/// The joins that a link asks for on what is known, where that is enough.
+/// The join that a link from cells into a cell asks for on what is known. None for those links that
+/// go over types or functions, or ask for nothing.
 #[tactic(auto, unfolding(crate::specs::Gives::gives))]
-fn apply_to(
+fn flow(s: &System<'_>, link: &Link, known: &[(usize, Content)]) -> Option<(usize, Content)>
+    requires { applied.IsReady s.now.facts.now s.now.longs s.now.cells s.now.links link.now known.now }
+    ensures { MatchOption result (applied.GoesOver link.now) (λ asked. (x : Contents) → Has known.now x → asked ∷ [] ≡ g.gives s.now.facts.now s.now.links link.now x) }
+{
+    let f = s.facts;
+    match link {
+        Link::Root { give, to } => Some((*to, *give)),
+        Link::Copy { from, to } => Some((*to, content_at(known, 0, *from))),
+        Link::NonNull { from, to } => Some((*to, non_null(content_at(known, 0, *from)))),
+        Link::Filter { from, by, to } => Some((*to, filter(f, content_at(known, 0, *from), *by))),
+        Link::Minus { from, by, to } => Some((*to, minus(f, content_at(known, 0, *from), *by))),
+        Link::Test { from, by, to } => Some((*to, test(f, content_at(known, 0, *from), *by))),
+        Link::IsNull { from, to } => Some((*to, is_null(content_at(known, 0, *from)))),
+        Link::Equal { left, right, to } => {
+            let first = content_at(known, 0, *left);
+            Some((*to, equal(f, first, content_at(known, 1, *right))))
+        }
+        Link::Pack { storage, from, to } => Some((
+            *to,
+            pack(*storage, content_at(known, 0, *from)),
+        )),
+        Link::Internalise { from, to } => Some((*to, internalised(f, content_at(known, 0, *from)))),
+        Link::Externalise { from, to } => Some((*to, externalised(content_at(known, 0, *from)))),
+        _ => None,
+    }
+}
+
+/// What a link that writes slots asks for on what is known: which content is to be joined into which
+/// slots. None for a link that writes none.
+#[tactic(auto, unfolding(crate::specs::Gives::gives))]
+fn written(s: &System<'_>, link: &Link, known: &[(usize, Content)]) -> Option<Put>
+    requires { applied.IsReady s.now.facts.now s.now.longs s.now.cells s.now.links link.now known.now }
+    ensures head { IfSome result (λ put. IfSome put.reach (IsHead s.now.facts.now)) }
+    ensures gives { MatchOption result (applied.GoesOver link.now → applied.ReadsOrCalls link.now) (λ put. (x : Contents) → Has known.now x → applied.put s.now.facts.now put ≡ g.gives s.now.facts.now s.now.links link.now x) }
+{
+    match link {
+        Link::SlotSet {
+            object,
+            ty,
+            slot,
+            storage,
+            from,
+        } => Some(Put {
+            reach: reached(s, *object, *ty, known),
+            slot: *slot,
+            a: pack(*storage, content_at(known, 1, *from)),
+        }),
+        Link::SlotFill {
+            object,
+            ty,
+            slot,
+            give,
+        } => Some(Put {
+            reach: reached(s, *object, *ty, known),
+            slot: *slot,
+            a: *give,
+        }),
+        Link::SlotCopy {
+            target,
+            to_ty,
+            source,
+            from_ty,
+        } => Some(Put {
+            reach: reached(s, *target, *to_ty, known),
+            slot: 0,
+            a: joined(s, reached(s, *source, *from_ty, known), known),
+        }),
+        _ => None,
+    }
+}
+
+/// The joins that a link asks for on what is known, where it reads slots or calls by reference, or
+/// asks for nothing.
+#[tactic(auto, unfolding(crate::specs::Gives::gives))]
+fn go_over(
     alloc: Global,
     s: &System<'_>,
     link: &Link,
     known: &[(usize, Content)],
 ) -> Result<List<(usize, Content)>, AllocError>
-    requires fits { Fits s.now.facts.now s.now.longs s.now.cells link.now }
-    requires belong { All (λ (k : Item). Belongs s.now.facts.now k.1) known.now }
-    requires fixed { All (Contains (cells_of known.now)) (kept.fixed_reads link.now) }
-    requires further { (x : Contents) → Has known.now x → All (Contains (cells_of known.now)) (kept.further_reads s.now.facts.now s.now.links link.now x) }
-    requires some { (x : Contents) × Has known.now x }
+    requires kind { applied.ReadsOrCalls link.now }
+    requires ready { applied.IsReady s.now.facts.now s.now.longs s.now.cells s.now.links link.now known.now }
     ensures { IfOk result (λ asked. (x : Contents) → Has known.now x → asked ≡ g.gives s.now.facts.now s.now.links link.now x) }
 {
-    let f = s.facts;
     match link {
-        Link::Root { give, to } => one(alloc, *to, *give),
-        Link::Copy { from, to } => one(alloc, *to, content_at(known, 0, *from)),
-        Link::NonNull { from, to } => one(alloc, *to, non_null(content_at(known, 0, *from))),
-        Link::Filter { from, by, to } => one(
-            alloc,
-            *to,
-            filter(f, content_at(known, 0, *from), *by),
-        ),
-        Link::Minus { from, by, to } => one(alloc, *to, minus(f, content_at(known, 0, *from), *by)),
-        Link::Test { from, by, to } => one(alloc, *to, test(f, content_at(known, 0, *from), *by)),
-        Link::IsNull { from, to } => one(alloc, *to, is_null(content_at(known, 0, *from))),
-        Link::Equal { left, right, to } => {
-            let first = content_at(known, 0, *left);
-            one(alloc, *to, equal(f, first, content_at(known, 1, *right)))
-        }
-        Link::Pack { storage, from, to } => {
-            one(alloc, *to, pack(*storage, content_at(known, 0, *from)))
-        }
-        Link::Internalise { from, to } => {
-            one(alloc, *to, internalised(f, content_at(known, 0, *from)))
-        }
-        Link::Externalise { from, to } => {
-            one(alloc, *to, externalised(content_at(known, 0, *from)))
-        }
         Link::SlotGet {
             object,
             ty,
@@ -111,36 +159,7 @@ fn apply_to(
                 signed: *signed,
                 to: *to,
             };
-            let reach = reached(s, *object, *ty, known);
-            from_slots(alloc, s, reach, get, known)
-        }
-        Link::SlotSet {
-            object,
-            ty,
-            slot,
-            storage,
-            from,
-        } => {
-            let set = reached(s, *object, *ty, known);
-            let stored = pack(*storage, content_at(known, 1, *from));
-            into_slots(alloc, s, set, *slot, stored)
-        }
-        Link::SlotFill {
-            object,
-            ty,
-            slot,
-            give,
-        } => into_slots(alloc, s, reached(s, *object, *ty, known), *slot, *give),
-        Link::SlotCopy {
-            target,
-            to_ty,
-            source,
-            from_ty,
-        } => {
-            let read = reached(s, *source, *from_ty, known);
-            let a = joined(s, read, known);
-            let written = reached(s, *target, *to_ty, known);
-            into_slots(alloc, s, written, 0, a)
+            from_slots(alloc, s, reached(s, *object, *ty, known), get, known)
         }
         Link::CallBy {
             callee,
@@ -149,12 +168,30 @@ fn apply_to(
             results,
         } => {
             let callees = called(s, *callee, *ty, known);
-            let passed = operands.as_slice();
-            let given = results.as_slice();
+            let (passed, given) = (operands.as_slice(), results.as_slice());
             call_by(alloc, s, callees, passed, given, known)
         }
-        Link::Callable { .. } => Ok(List::new(alloc)),
+        _ => Ok(List::new(alloc)),
     }
+}
+
+/// The joins that a link asks for on what is known, where that is enough.
+fn apply_to(
+    alloc: Global,
+    s: &System<'_>,
+    link: &Link,
+    known: &[(usize, Content)],
+) -> Result<List<(usize, Content)>, AllocError>
+    requires { applied.IsReady s.now.facts.now s.now.longs s.now.cells s.now.links link.now known.now }
+    ensures { IfOk result (λ asked. (x : Contents) → Has known.now x → asked ≡ g.gives s.now.facts.now s.now.links link.now x) }
+{
+    if let Some((to, a)) = flow(s, link, known) {
+        return one(alloc, to, a);
+    }
+    if let Some(put) = written(s, link, known) {
+        return into_slots(alloc, s, put);
+    }
+    go_over(alloc, s, link, known)
 }
 
 /// The joins that a link asks for on what is known of all cells on which it rests, in the order in
@@ -165,7 +202,6 @@ pub fn apply(
     link: usize,
     known: &[(usize, Content)],
 ) -> Result<List<(usize, Content)>, AllocError>
-    requires system { IsSystem s.now.facts.now s.now.longs s.now.cells s.now.links }
     requires link { link < length s.now.links }
     requires known { IsKnown s.now.facts.now s.now.longs s.now.links (link_at s.now.links link) known.now }
     requires enough { IsEnough s.now.facts.now s.now.links (link_at s.now.links link) known.now }

@@ -10,7 +10,7 @@ ghost use Rattle.gu_links.specs.Index.{IsHead, AreCallees};
 ghost use Rattle.gu_links.specs.Next as next;
 ghost use Rattle.gu_contents.specs.declared.content.Content.{Content as Held};
 ghost use Rattle.gu_links.specs.Gives.{Contents, reads};
-ghost use Rattle.gu_links.specs.Solutions.{Fits, IsSystem, IsOf};
+ghost use Rattle.gu_links.specs.Solutions.{Fits, IsOf};
 ghost use Rattle.gu_links.specs.Known.{Has, Item, IsKnown, IsEnough, asked_for, cells_of, link_at};
 
 use crate::asked::{called, reached};
@@ -75,7 +75,7 @@ fn slot_after(s: &System<'_>, reach: Reach, slot: u32, rest: Rest<'_>) -> Option
     match s.type_with(rest.first) {
         None => None,
         Some(ty) => {
-            let types = s.types(reach);
+            let types = s.types(&reach);
             let from = place_of(types, ty);
             slot_in(s, &types[from..], reach, slot, rest)
         }
@@ -240,7 +240,6 @@ impl System<'_> {
     /// earlier calls named for this link, from none on, in that order. No cell is named twice. None
     /// exactly where all are known on which the link rests.
     pub fn next_read(&self, link: usize, known: &[(usize, Content)]) -> Option<usize>
-        requires system { IsSystem self.now.facts.now self.now.longs self.now.cells self.now.links }
         requires link { link < length self.now.links }
         requires known { IsKnown self.now.facts.now self.now.longs self.now.links (link_at self.now.links link) known.now }
         ensures read { IfSome result (λ c. (x : Contents) → Has known.now x → Contains (reads self.now.facts.now self.now.links (link_at self.now.links link) x) c) }

@@ -18,6 +18,14 @@ use gu_contents::{Content, extend, join};
 use gu_types::{List, Storage};
 use std::alloc::{AllocError, Global};
 
+/// What is to be joined into the cells of a slot, of the types of a reach, if there are types.
+#[derive(Clone, Copy, Debug)]
+pub(crate) struct Put {
+    pub(crate) reach: Option<Reach>,
+    pub(crate) slot: u32,
+    pub(crate) a: Content,
+}
+
 /// A content for the cell of a slot of each type of a reach that has the slot.
 fn into_reach(
     alloc: Global,
@@ -30,7 +38,7 @@ fn into_reach(
     ensures { IfOk result (λ asked. asked ≡ g.into_slots s.now.facts.now slot a (kept.over_reach s.now.facts.now (Some reach) slot)) }
 {
     let mut asked = List::new(alloc);
-    'types: for ty in s.types(reach) {
+    'types: for ty in s.types(&reach) {
         if s.is_over(reach, slot, *ty) {
             asked.push((s.slot_cell(*ty, slot), a))?;
         }
@@ -38,21 +46,19 @@ fn into_reach(
     Ok(asked)
 }
 
-/// The same where there may be no types.
+/// What is joined into a slot of each type that has it.
 #[tactic(auto, using(crate::proofs::Walks::nothing_reached))]
 pub(crate) fn into_slots(
     alloc: Global,
     s: &System<'_>,
-    reach: Option<Reach>,
-    slot: u32,
-    a: Content,
+    put: Put,
 ) -> Result<List<(usize, Content)>, AllocError>
-    requires { IfSome reach (IsHead s.now.facts.now) }
-    ensures { IfOk result (λ asked. asked ≡ g.into_slots s.now.facts.now slot a (kept.over_reach s.now.facts.now reach slot)) }
+    requires { IfSome put.reach (IsHead s.now.facts.now) }
+    ensures { IfOk result (λ asked. asked ≡ applied.put s.now.facts.now put) }
 {
-    match reach {
+    match put.reach {
         None => Ok(List::new(alloc)),
-        Some(reach) => into_reach(alloc, s, reach, slot, a),
+        Some(reach) => into_reach(alloc, s, reach, put.slot, put.a),
     }
 }
 
@@ -97,7 +103,7 @@ fn from_reach(
 {
     let mut asked = List::new(alloc);
     let mut near: usize = 1;
-    'types: for ty in s.types(reach) {
+    'types: for ty in s.types(&reach) {
         if s.is_over(reach, get.slot, *ty) {
             let a = slot_content(s, *ty, get.slot, near, known);
             asked.push((get.to, extend(get.storage, get.signed, a)))?;
@@ -117,7 +123,7 @@ fn joined_reach(s: &System<'_>, reach: Reach, known: &[(usize, Content)]) -> Con
 {
     let mut elements = Content::Empty;
     let mut near: usize = 2;
-    'types: for ty in s.types(reach) {
+    'types: for ty in s.types(&reach) {
         if s.is_over(reach, 0, *ty) {
             elements = join(s.facts, elements, slot_content(s, *ty, 0, near, known));
             near = near.saturating_add(1);

@@ -6,7 +6,8 @@ ghost use Rattle.gu_types.specs.Depth.{types_of};
 ghost use Rattle.gu_contents.specs.Belongs.{IsFunc};
 ghost use Rattle.gu_links.specs.Cells as numbers;
 ghost use Rattle.gu_links.specs.Over.{has_slot, names};
-ghost use Rattle.gu_links.specs.Kept.{in_reach, types_below, functions_below};
+ghost use Rattle.gu_links.specs.Kept.{candidates, functions_below, in_reach};
+ghost use Rattle.gu_links.specs.Solutions.{IsSystem};
 ghost use Rattle.gu_links.specs.Index.{IsIndexed, IsHead};
 ghost use Rattle.gu_links.specs.Listed.{AreListed};
 ghost use Rattle.gu_links.specs.Next as next;
@@ -18,9 +19,10 @@ use crate::readers::{Readers, place_of};
 use gu_contents::{Facts, Longs};
 use gu_types::List;
 use std::alloc::{AllocError, Global};
+use std::slice;
 
-/// Links between so many cells, over the facts of a module and a list of 64-bit literals. A link's
-/// number is its place among the links.
+/// Links between so many cells, over the facts of a module and a list of 64-bit literals, which
+/// make a system of these. A link's number is its place among the links.
 #[derive(Drop)]
 pub struct System<'a> {
     /// The links.
@@ -33,20 +35,19 @@ pub struct System<'a> {
     pub longs: Longs,
     pub(crate) index: Index,
     pub(crate) readers: Readers,
-    ghost room: { numbers.own_cells facts.now ≤ cells },
+    pub ghost system: { ∥ IsSystem facts.now longs cells links ∥₁ },
     ghost few: { numbers.own_cells facts.now < 2 ^ 64 },
-    ghost named: { (g : ℕ) → list_any (names g) links ≡ true → IsFunc facts.now g },
     ghost indexed: { IsIndexed facts.now links index } by { Prim.hlevel props },
     ghost listed: { AreListed facts.now cells links index.cells readers } by { Prim.hlevel props },
 }
 
 impl<'a> System<'a> {
     ghost use Rattle.std.specs.Prelude.{All, Contains, IfOk, ℕ as Number};
-    ghost use Rattle.gu_links.specs.Solutions.{IsSystem};
     ghost use Rattle.gu_links.specs.Known.{link_at};
     ghost use Rattle.gu_links.specs.Ways.{IsReadBy};
 
-    /// The system of its arguments. `AllocError` only where memory is refused.
+    /// The system of its arguments. `AllocError` where memory is refused, or where there are 2^32
+    /// types or functions or more.
     pub fn new(
         alloc: Global,
         links: List<Link>,
@@ -73,13 +74,15 @@ impl<'a> System<'a> {
         })
     }
 
-    /// The numbers of the links that read a cell in one of 64 ways: all that read it are in the 64
-    /// answers together. With 0 these are the links listed at the cell itself, with more those
-    /// listed for it at a supertype above its own type, which is that of the values that have the
-    /// slot or of the function that has the result.
+    /// Numbers of links, among them those of all that read a cell in one of 64 ways. So all that
+    /// read it are in the 64 answers together. The first way, 0, has the links that read the cell by
+    /// its number. For the slot of a type, each way has those that go over the types at or below the
+    /// one that stands `up` declared supertypes above. For the result of a function, each way but
+    /// the first has the calls by reference at the type `up - 1` supertypes above the function's
+    /// own; where 63 supertypes stand above that, no way is left for it, so the first way has the
+    /// calls at it too, and each other those `up` supertypes above.
     pub fn readers(&self, cell: usize, up: u32) -> &[usize]
-        requires system { IsSystem self.now.facts.now self.now.longs self.now.cells self.now.links }
-        requires up { up ≤ 63 }
+        requires { up ≤ 63 }
         ensures below { All (λ k. k < length self.now.links) result.now }
         ensures found { (k : Number) → k < length self.now.links → IsReadBy self.now.facts.now self.now.links cell up (link_at self.now.links k) → Contains result.now k }
     {
@@ -92,12 +95,17 @@ impl<'a> System<'a> {
         }
     }
 
-    /// The types at or below the head of a reach, each by its least index, in the order of these.
-    pub(crate) fn types(&self, reach: Reach) -> &[u32]
-        requires { IsHead self.now.facts.now reach }
-        ensures { result.now ≡ types_below self.now.facts.now reach.head }
+    /// The types among which those of a reach are, each by its least index, in the order of these:
+    /// all at or below the head, or the head alone where the reach is not deeper.
+    pub(crate) fn types<'s>(&'s self, reach: &'s Reach) -> &'s [u32]
+        requires { IsHead self.now.facts.now reach.now }
+        ensures { result.now ≡ candidates self.now.facts.now reach.now }
     {
-        self.index.below.types[reach.head as usize].as_slice()
+        if reach.depth == 0 {
+            slice::from_ref(&reach.head)
+        } else {
+            self.index.below.types[reach.head as usize].as_slice()
+        }
     }
 
     /// The functions that can be called by reference and whose type is at or below the head of a

@@ -2,7 +2,7 @@
 #![tactic(auto)]
 
 ghost use Rattle.std.specs.Prelude.{◌≡◌, ◌<◌, ℕ, All, Contains, IfOk, length};
-ghost use Rattle.gu_links.specs.Solutions.{at, IsOf, IsSystem, IsUnderAll, Least};
+ghost use Rattle.gu_links.specs.Solutions.{at, IsOf, IsUnderAll, Least};
 ghost use Rattle.gu_worklist.specs.Left.{IsLeftOf};
 
 mod step;
@@ -36,7 +36,6 @@ pub fn close_from(
     s: &System<'_>,
     start: List<Content>,
 ) -> Result<List<Content>, AllocError>
-    requires system { IsSystem s.now.facts.now s.now.longs s.now.cells s.now.links }
     requires length { length start ≡ s.now.cells }
     requires are_of { All (IsOf s.now.facts.now s.now.longs) start }
     requires below { IsUnderAll s.now.facts.now s.now.links (at start) }

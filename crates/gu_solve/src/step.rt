@@ -2,7 +2,7 @@
 //! left.
 ghost use Rattle.std.specs.Prelude.{◌≡◌, ◌<◌, ◌≤◌, ◌∷◌, [], All, IfOk, OnOk, length};
 ghost use Rattle.gu_links.specs.Gives.{gives};
-ghost use Rattle.gu_links.specs.Solutions.{at, IsSystem};
+ghost use Rattle.gu_links.specs.Solutions.{at};
 ghost use Rattle.gu_links.specs.Known.{link_at, Has, IsKnown, IsEnough};
 ghost use Rattle.gu_worklist.specs.Left.{IsLeftOf, Keeps};
 ghost use Rattle.gu_solve.specs.Steps.{IsOnTheWay, IsDue, Rises, weight};
@@ -20,7 +20,6 @@ fn look_up(
     contents: &[Content],
     link: usize,
 ) -> Result<Vec<(usize, Content)>, AllocError>
-    requires system { IsSystem s.now.facts.now s.now.longs s.now.cells s.now.links }
     requires contents { IsOnTheWay s.now.facts.now s.now.longs s.now.cells s.now.links contents.now }
     requires link { link < length s.now.links }
     ensures has { IfOk result (λ known. Has known.items (at contents.now)) }
@@ -42,7 +41,6 @@ fn ask(
     contents: &[Content],
     link: usize,
 ) -> Result<List<(usize, Content)>, AllocError>
-    requires system { IsSystem s.now.facts.now s.now.longs s.now.cells s.now.links }
     requires contents { IsOnTheWay s.now.facts.now s.now.longs s.now.cells s.now.links contents.now }
     requires link { link < length s.now.links }
     ensures gives { IfOk result (λ asked. asked ≡ gives s.now.facts.now s.now.links (link_at s.now.links link) (at contents.now)) }
@@ -61,7 +59,6 @@ fn raise(
     content: Content,
     left: &mut Left,
 ) -> Result<(), AllocError>
-    requires system { IsSystem s.now.facts.now s.now.longs s.now.cells s.now.links }
     requires contents { IsOnTheWay s.now.facts.now s.now.longs s.now.cells s.now.links contents.old.items }
     requires due { IsDue s.now.facts.now s.now.longs s.now.cells s.now.links (cell, content) }
     requires left { IsLeftOf (length s.now.links) left.old }
@@ -86,7 +83,6 @@ fn raise_all(
     asked: &[(usize, Content)],
     left: &mut Left,
 ) -> Result<(), AllocError>
-    requires system { IsSystem s.now.facts.now s.now.longs s.now.cells s.now.links }
     requires contents { IsOnTheWay s.now.facts.now s.now.longs s.now.cells s.now.links contents.old.items }
     requires due { All (IsDue s.now.facts.now s.now.longs s.now.cells s.now.links) asked.now }
     requires left { IsLeftOf (length s.now.links) left.old }
@@ -111,7 +107,6 @@ pub(crate) fn step(
     link: usize,
     left: &mut Left,
 ) -> Result<(), AllocError>
-    requires system { IsSystem s.now.facts.now s.now.longs s.now.cells s.now.links }
     requires contents { IsOnTheWay s.now.facts.now s.now.longs s.now.cells s.now.links contents.old.items }
     requires link { link < length s.now.links }
     requires left { IsLeftOf (length s.now.links) left.old }

@@ -1,8 +1,8 @@
 -- Links that are left, and their marks.
-use Rattle.std.proofs.Common.{ℕ, zero, suc, ◌≡◌, ◌+◌, ◌<◌, ◌≤◌, Bool, true, false, List, [], ◌∷◌, ◌++◌, set, take, length, get_or, cond, ⊎_elim, sym, ap, ◌∙◌, subst, arith}
+use Rattle.std.proofs.Common.{ℕ, zero, suc, ◌≡◌, ◌+◌, ◌<◌, ◌≤◌, Bool, true, false, List, [], ◌∷◌, ◌++◌, set, take, drop, length, get_or, cond, inl, inr, ⊎_elim, sym, ap, ◌∙◌, subst, arith}
 use Rattle.std.specs.Prelude.{All, Contains, Some, slice_get}
-use Rattle.std.proofs.lemmas.List.{length-set, length_push, get_or-set_same, get_or-set_other}
-use Rattle.std.proofs.lemmas.List.Elements.{All-push, All-more, All-weaker, All-contains, Contains-push, Contains-push_cases, Contains-append_left}
+use Rattle.std.proofs.lemmas.List.{length-set, length_push, take_more, take-append-drop, get_or-set_same, get_or-set_other}
+use Rattle.std.proofs.lemmas.List.Elements.{All-push, All-more, All-weaker, All-contains, Contains-push, Contains-push_cases, Contains-append_left, Contains-append_right}
 use Rattle.gu_links.proofs.Lists.{all_front}
 use Rattle.std.proofs.lemmas.Option.{slice_get_within, get_or_from_slice_get}
 use mathlib.Core.Logic.{dite}
@@ -13,7 +13,7 @@ use Rattle.gu_links.specs.Solutions.{IsSystem, IsReader}
 use Rattle.gu_links.specs.Known.{link_at}
 use Rattle.gu_links.specs.Ways.{IsReadBy}
 use Rattle.gu_links.proofs.Ways.{every_reader}
-use Rattle.gu_worklist.specs.Left.{marks, IsLeft, Keeps}
+use Rattle.gu_worklist.specs.Left.{marks, IsLeft, AddsOnly, Keeps}
 
 pub marks_few : (flags : List Bool) → marks flags ≤ length flags
 marks_few [] = omega arith
@@ -74,6 +74,33 @@ keeps_added waiting new k e = record { kept = λ j h. subst (λ (xs : List ℕ).
 
 pub keeps_on : (a b c : List ℕ) → Keeps a b → Keeps b c → Keeps a c
 keeps_on a b c p q = record { kept = λ k h. q.kept k (p.kept k h) }
+
+-- nothing is left but what was, and what was added
+pub only_same : (links waiting new : List ℕ) → new ≡ waiting → AddsOnly links waiting new
+only_same links waiting new e = record { only = λ k h. inl (subst (λ (xs : List ℕ). Contains xs k) e h) }
+
+pub only_added : (waiting new : List ℕ) (k : ℕ) → new ≡ waiting ++ k ∷ [] → AddsOnly (k ∷ []) waiting new
+only_added waiting new k e = record {
+  only = λ j h. ⊎_elim (λ (old : Contains waiting j). inl old) (λ (is : k ≡ j). inr (0, omega arith, is)) (Contains-push_cases waiting k j (subst (λ (xs : List ℕ). Contains xs j) e h));
+}
+
+pub only_more : (links : List ℕ) (i d : ℕ) (P Q R : List ℕ) → i < length links → AddsOnly (take i links) P Q → AddsOnly (get_or links i d ∷ []) Q R → AddsOnly (take (i + 1) links) P R
+only_more links i d P Q R lt one two = record {
+  only = λ k h. let grown = take_more links i d lt in ⊎_elim
+      (λ (mid : Contains Q k). ⊎_elim
+      (λ (old : Contains P k). inl old)
+      (λ (new : Contains (take i links) k). inr (subst (λ (xs : List ℕ). Contains xs k) (sym grown) (Contains-append_left (take i links) (get_or links i d ∷ []) k new)))
+      (one.only k mid))
+      (λ (new : Contains (get_or links i d ∷ []) k). inr (subst (λ (xs : List ℕ). Contains xs k) (sym grown) (Contains-append_right (take i links) (get_or links i d ∷ []) k new)))
+      (two.only k h);
+}
+
+pub only_of : (links : List ℕ) (i : ℕ) (P Q : List ℕ) → AddsOnly (take i links) P Q → AddsOnly links P Q
+only_of links i P Q h = record {
+  only = λ k at. ⊎_elim (λ (old : Contains P k). inl old)
+      (λ (new : Contains (take i links) k). inr (subst (λ (xs : List ℕ). Contains xs k) (take-append-drop i links) (Contains-append_left (take i links) (drop i links) k new)))
+      (h.only k at);
+}
 
 -- one link more of a list is left
 pub added_more : (links : List ℕ) (i d : ℕ) (P Q : List ℕ) → Keeps P Q → All (Contains P) (take i links) → i < length links → Contains Q (get_or links i d) → All (Contains Q) (take (i + 1) links)

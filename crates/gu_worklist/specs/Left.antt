@@ -1,5 +1,5 @@
 -- The links that are left to serve.
-use Rattle.std.specs.Prelude.{ℕ, ◌+◌, ◌<◌, ◌≤◌, ◌≡◌, Bool, true, false, List, [], ◌∷◌, All, Contains, length, slice_index_or, if◌then◌else◌}
+use Rattle.std.specs.Prelude.{ℕ, ◌+◌, ◌<◌, ◌≤◌, ◌≡◌, ◌⊎◌, Bool, true, false, List, [], ◌∷◌, All, Contains, length, slice_index_or, if◌then◌else◌}
 
 -- how many links there are, and which of them are left, the one that is next at the end
 pub record Left : Type 0 where
@@ -23,6 +23,10 @@ pub record IsLeft (waiting : List ℕ) (marked : List Bool) : Type 0 where
 -- all that was left is left
 pub record Keeps (old new : List ℕ) : Type 0 where
   pub kept : (k : ℕ) → Contains old k → Contains new k
+
+-- all that is left was left, or is one of some links
+pub record AddsOnly (links old new : List ℕ) : Type 0 where
+  pub only : (k : ℕ) → Contains new k → Contains old k ⊎ Contains links k
 
 -- of so many links no more are left
 pub record IsLeftOf (links : ℕ) (left : Left) : Type 0 where

@@ -1,6 +1,6 @@
 //! Links that are left to serve, each once.
-ghost use Rattle.std.specs.Prelude.{◌≡◌, ◌<◌, ◌≤◌, ◌++◌, ◌∷◌, [], Contains, IfOk, IfSome, OnOk, MatchOption, length};
-ghost use Rattle.gu_worklist.specs.Left.{Keeps};
+ghost use Rattle.std.specs.Prelude.{◌≡◌, ◌<◌, ◌≤◌, ◌++◌, ◌∷◌, [], Contains, IfNone, IfOk, IfSome, OnOk, MatchOption, length};
+ghost use Rattle.gu_worklist.specs.Left.{AddsOnly, Keeps};
 
 use std::alloc::{AllocError, Global};
 use std::marker::Model;
@@ -42,6 +42,7 @@ impl Left {
         ensures links { self.new.links ≡ self.old.links }
         ensures added { OnOk result (Contains self.new.waiting link) }
         ensures keeps { Keeps self.old.waiting self.new.waiting }
+        ensures only { AddsOnly (link ∷ []) self.old.waiting self.new.waiting }
         ensures few { length self.new.waiting ≤ self.new.links }
     {
         if self.marked[link] {
@@ -56,6 +57,7 @@ impl Left {
     pub fn take(&mut self) -> Option<usize>
         ensures links { self.new.links ≡ self.old.links }
         ensures taken { MatchOption result (self.old.waiting ≡ []) (λ link. self.old.waiting ≡ self.new.waiting ++ link ∷ []) }
+        ensures none { IfNone result (self.new.waiting ≡ []) }
         ensures below { IfSome result (λ link. link < self.old.links) }
     {
         let link = self.waiting.pop()?;

@@ -5,6 +5,7 @@ use Rattle.gu_links.specs.Solutions.{at, Least}
 use Rattle.gu_solve.proofs.Closing.{closed_is_least}
 use Rattle.gu_solve.specs.Steps.{IsOnTheWay}
 use Rattle.gu_solve.proofs.Rising.{belong_at, given_belong, served}
+use Rattle.gu_links.proofs.Regained.{is_system}
 use Rattle.gu_solve.proofs.close_from.Goals as goal
 
 pub left-init : goal.left-init
@@ -25,7 +26,7 @@ left-preserved c =
       contents = h.contents;
       left = h.left;
       closed = served f s.links c.in-Some.link c.left.left.waiting c.take.new.self.waiting c.step.new.left.waiting (at xs) (at zs) (belong_at f s.longs xs inv.contents.are_of) (belong_at f s.longs zs h.contents.are_of)
-          (given_belong f s.longs s.cells s.links xs inv.contents c.requires.system) c.in-Some.ensures.taken h.keeps h.rises inv.closed;
+          (given_belong f s.longs s.cells s.links xs inv.contents (is_system c.args.s.now)) c.in-Some.ensures.taken h.keeps h.rises inv.closed;
     }
 
 pub returns-clause-least : goal.returns-clause-least

@@ -1,20 +1,16 @@
 use Rattle.std.proofs.Common.{◌≡◌, subst}
-use Rattle.std.specs.Prelude.{All, Contains}
 use Rattle.gu_links.specs.declared.link.Link.{Link}
-use Rattle.gu_links.specs.Known.{cells_of, link_at}
-use Rattle.gu_links.specs.Kept.{fixed_reads, further_reads}
-use Rattle.gu_links.proofs.Applying.{reads_fixed, reads_further}
+use Rattle.gu_links.specs.declared.link.Link.TheVariants.{Callable}
+use Rattle.gu_links.specs.Applied.{IsReady}
+use Rattle.gu_links.specs.Known.{link_at}
+use Rattle.gu_links.proofs.Applying.{is_ready}
 use Rattle.gu_links.proofs.Onward.{link_read}
+use Rattle.gu_links.proofs.Regained.{is_system}
 use Rattle.gu_links.proofs.asked.apply.Goals as goal
 
-pub apply_to-requires-clause-fixed : goal.apply_to-requires-clause-fixed
-apply_to-requires-clause-fixed c =
-    let e : link_at c.args.s.now.links c.args.link ≡ c.index-links-link.result = link_read c.args.s.now.links c.as_slice-links.result.now c.args.link c.index-links-link.result c.requires.link c.as_slice-links.ensures c.index-links-link.is in
-    subst (λ (l : Link). All (Contains (cells_of c.args.known.now)) (fixed_reads l)) e
-    (reads_fixed c.args.s.now.facts.now c.args.s.now.links (link_at c.args.s.now.links c.args.link) c.requires.known.contents (Contains (cells_of c.args.known.now)) (c.requires.enough.all c.requires.known.contents c.requires.known.has))
-
-pub apply_to-requires-clause-further : goal.apply_to-requires-clause-further
-apply_to-requires-clause-further c x h =
-    let e : link_at c.args.s.now.links c.args.link ≡ c.index-links-link.result = link_read c.args.s.now.links c.as_slice-links.result.now c.args.link c.index-links-link.result c.requires.link c.as_slice-links.ensures c.index-links-link.is in
-    subst (λ (l : Link). All (Contains (cells_of c.args.known.now)) (further_reads c.args.s.now.facts.now c.args.s.now.links l x)) e
-    (reads_further c.args.s.now.facts.now c.args.s.now.links (link_at c.args.s.now.links c.args.link) x (Contains (cells_of c.args.known.now)) (c.requires.enough.all x h))
+pub apply_to-requires : goal.apply_to-requires
+apply_to-requires c =
+    let s = c.args.s.now in
+    let e : link_at s.links c.args.link ≡ c.index-links-link.result = link_read s.links c.as_slice-links.result.now c.args.link c.index-links-link.result c.requires.link c.as_slice-links.ensures c.index-links-link.is in
+    subst (λ (l : Link). IsReady s.facts.now s.longs s.cells s.links l c.args.known.now) e
+    (is_ready s.facts.now s.longs s.cells s.links (link_at s.links c.args.link) c.args.known.now ((is_system s).fit c.args.link (Callable 0) c.requires.link) c.requires.known c.requires.enough)

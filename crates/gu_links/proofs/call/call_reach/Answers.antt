@@ -5,18 +5,19 @@ use Rattle.gu_links.specs.Gives.{Asked, call}
 use Rattle.gu_links.specs.Known.{cells_of}
 use Rattle.gu_links.specs.Kept.{in_reach}
 use Rattle.gu_links.proofs.Walks.{function_in, one_called, flat_more, kept_same, called_all}
+use Rattle.gu_links.proofs.Regained.{is_named}
 use Rattle.gu_links.proofs.call.call_reach.Goals as goal
 use Rattle.gu_links.proofs.call.call_reach.Goals.{then-covers+in_ok-call, else-covers}
 
 pub type_of-ty-requires : goal.type_of-ty-requires
-type_of-ty-requires c = c.args.s.now.named (get_or c.functions-function-items.result.now c.functions.function-index 0) (function_in c.args.s.now.facts.now c.args.s.now.links c.args.reach.head c.functions-function-items.result.now c.functions.function-index c.functions-function-items.ensures c.functions-test.true)
+type_of-ty-requires c = is_named c.args.s.now (get_or c.functions-function-items.result.now c.functions.function-index 0) (function_in c.args.s.now.facts.now c.args.s.now.links c.args.reach.head c.functions-function-items.result.now c.functions.function-index c.functions-function-items.ensures c.functions-test.true)
 
 pub call-requires-clause-function : goal.call-requires-clause-function
-call-requires-clause-function c = c.args.s.now.named (get_or c.functions-function-items.result.now c.functions.function-index 0) (function_in c.args.s.now.facts.now c.args.s.now.links c.args.reach.head c.functions-function-items.result.now c.functions.function-index c.functions-function-items.ensures c.functions-test.true)
+call-requires-clause-function c = is_named c.args.s.now (get_or c.functions-function-items.result.now c.functions.function-index 0) (function_in c.args.s.now.facts.now c.args.s.now.links c.args.reach.head c.functions-function-items.result.now c.functions.function-index c.functions-function-items.ensures c.functions-test.true)
 
 pub call-requires-clause-outs : goal.call-requires-clause-outs
 call-requires-clause-outs c =
-    let is = c.args.s.now.named (get_or c.functions-function-items.result.now c.functions.function-index 0) (function_in c.args.s.now.facts.now c.args.s.now.links c.args.reach.head c.functions-function-items.result.now c.functions.function-index c.functions-function-items.ensures c.functions-test.true) in
+    let is = is_named c.args.s.now (get_or c.functions-function-items.result.now c.functions.function-index 0) (function_in c.args.s.now.facts.now c.args.s.now.links c.args.reach.head c.functions-function-items.result.now c.functions.function-index c.functions-function-items.ensures c.functions-test.true) in
     one_called c.args.s.now.facts.now (Contains (cells_of c.args.known.now)) (out_cells c.args.s.now.facts.now) c.args.s.now.links c.args.reach (get_or c.functions-function-items.result.now c.functions.function-index 0) c.requires.outs is.is_func
     (function_in c.args.s.now.facts.now c.args.s.now.links c.args.reach.head c.functions-function-items.result.now c.functions.function-index c.functions-function-items.ensures c.functions-test.true)
     (ap (in_reach c.args.s.now.facts.now (Some c.args.reach)) (sym c.type_of-ty.ensures.value) ∙ sym c.covers.ensures ∙ c.if-covers.true)

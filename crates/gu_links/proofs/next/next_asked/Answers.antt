@@ -4,6 +4,7 @@ use Rattle.gu_links.specs.Kept.{further_reads}
 use Rattle.gu_links.specs.Known.{Item}
 use Rattle.gu_links.specs.Next.{first_of, is_rest}
 use Rattle.gu_links.proofs.Onward.{fixed_next, fixed_known, known_below, other_first, other_next}
+use Rattle.gu_links.proofs.Regained.{is_system}
 use Rattle.gu_links.proofs.next.next_asked.Goals as goal
 use Rattle.gu_links.proofs.next.next_asked.Goals.{then-known-fixed-2, else-known-fixed-2}
 
@@ -14,7 +15,7 @@ returns-then-known-fixed c x h =
 pub overflow_add-first : goal.overflow_add-first
 overflow_add-first c =
     let none : Item = (0, Empty) in
-    let b = known_below c.args.s.now.facts.now c.args.s.now.longs c.args.s.now.links c.args.link.now c.args.known.now c.requires.known c.args.s.now.cells c.args.s.now.room c.requires.fits (length c.args.known.now - 1) none (let l = c.if-known-fixed-2.true in omega arith) in
+    let b = known_below c.args.s.now.facts.now c.args.s.now.longs c.args.s.now.links c.args.link.now c.args.known.now c.requires.known c.args.s.now.cells (is_system c.args.s.now).room c.requires.fits (length c.args.known.now - 1) none (let l = c.if-known-fixed-2.true in omega arith) in
     let h : (get_or c.args.known.now (length c.args.known.now - 1) none).0 + 1 < 2 ^ 64 = omega arith in
     search (rules, h)
 

@@ -12,17 +12,17 @@ use Rattle.gu_links.proofs.slots.from_reach.Goals as goal
 use Rattle.gu_links.proofs.slots.from_reach.Goals.{then-is_over+in_ok-push, else-is_over}
 
 pub is_over-requires-clause-ty : goal.is_over-requires-clause-ty
-is_over-requires-clause-ty c = (item_in c.args.s.now.facts.now c.args.reach.head c.types-ty-items.result.now c.types.ty-index c.types-ty-items.ensures c.types-test.true).0
+is_over-requires-clause-ty c = (item_in c.args.s.now.facts.now c.args.reach c.types-ty-items.result.now c.types.ty-index c.requires.head c.types-ty-items.ensures c.types-test.true).0
 
 pub slot_content-a-requires-clause-ty : goal.slot_content-a-requires-clause-ty
-slot_content-a-requires-clause-ty c = (item_in c.args.s.now.facts.now c.args.reach.head c.types-ty-items.result.now c.types.ty-index c.types-ty-items.ensures c.types-test.true).0
+slot_content-a-requires-clause-ty c = (item_in c.args.s.now.facts.now c.args.reach c.types-ty-items.result.now c.types.ty-index c.requires.head c.types-ty-items.ensures c.types-test.true).0
 
 pub slot_content-a-requires-clause-least : goal.slot_content-a-requires-clause-least
-slot_content-a-requires-clause-least c = (item_in c.args.s.now.facts.now c.args.reach.head c.types-ty-items.result.now c.types.ty-index c.types-ty-items.ensures c.types-test.true).1
+slot_content-a-requires-clause-least c = (item_in c.args.s.now.facts.now c.args.reach c.types-ty-items.result.now c.types.ty-index c.requires.head c.types-ty-items.ensures c.types-test.true).1
 
 pub slot_content-a-requires-clause-known : goal.slot_content-a-requires-clause-known
 slot_content-a-requires-clause-known c =
-    let i = item_in c.args.s.now.facts.now c.args.reach.head c.types-ty-items.result.now c.types.ty-index c.types-ty-items.ensures c.types-test.true in
+    let i = item_in c.args.s.now.facts.now c.args.reach c.types-ty-items.result.now c.types.ty-index c.requires.head c.types-ty-items.ensures c.types-test.true in
     one_of c.args.s.now.facts.now (λ (t : ℕ). Contains (cells_of c.args.known.now) (slot_cell c.args.s.now.facts.now t c.args.get.slot)) (Some c.args.reach) c.args.get.slot (get_or c.types-ty-items.result.now c.types.ty-index 0)
     c.requires.known i.0 i.1 (sym c.is_over.ensures ∙ c.if-is_over.true)
 
@@ -38,4 +38,4 @@ types-preserved c = elim c.if-is_over.branch [
 ]
 
 pub returns : goal.returns
-returns c x h = c.types.invariant x h ∙ ap (map (λ (t : ℕ). (c.args.get.to, extend c.args.get.storage c.args.get.signed (slot_of c.args.s.now.facts.now x c.args.get.slot t)))) (walked c.args.s.now.facts.now c.args.reach c.args.get.slot c.types-ty-items.result.now c.types.ty-index c.types-ty-items.ensures c.types-test.false)
+returns c x h = c.types.invariant x h ∙ ap (map (λ (t : ℕ). (c.args.get.to, extend c.args.get.storage c.args.get.signed (slot_of c.args.s.now.facts.now x c.args.get.slot t)))) (walked c.args.s.now.facts.now c.args.reach c.args.get.slot c.types-ty-items.result.now c.types.ty-index c.requires.head c.types-ty-items.ensures c.types-test.false)

@@ -8,4 +8,4 @@ use Rattle.gu_links.specs.Applied.{from_slots}
 use Rattle.gu_links.proofs.slots.from_reach.Given as goal
 
 abbrev pub invariant-types : goal.invariant-types
-invariant-types l = (x : Contents) → Has l.known x → l.asked ≡ from_slots l.s.facts.now x l.get (filter (λ (t : ℕ). has_slot l.s.facts.now l.get.slot t && in_reach l.s.facts.now (Some l.reach) t) (take l.ty-index l.ty-items))
+invariant-types l = (x : Contents) → Has l.known x → l.asked ≡ from_slots l.s.facts.now x l.get (filter (λ (t : ℕ). has_slot l.s.facts.now l.get.slot t && in_reach l.s.facts.now (Some l.fn.reach) t) (take l.ty-index l.ty-items))

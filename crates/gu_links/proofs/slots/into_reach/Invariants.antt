@@ -6,4 +6,4 @@ use Rattle.gu_links.specs.Kept.{in_reach}
 use Rattle.gu_links.proofs.slots.into_reach.Given as goal
 
 abbrev pub invariant-types : goal.invariant-types
-invariant-types l = l.asked ≡ map (λ (t : ℕ). (slot_cell l.s.facts.now t l.slot, l.a)) (filter (λ (t : ℕ). has_slot l.s.facts.now l.slot t && in_reach l.s.facts.now (Some l.reach) t) (take l.ty-index l.ty-items))
+invariant-types l = l.asked ≡ map (λ (t : ℕ). (slot_cell l.s.facts.now t l.slot, l.a)) (filter (λ (t : ℕ). has_slot l.s.facts.now l.slot t && in_reach l.s.facts.now (Some l.fn.reach) t) (take l.ty-index l.ty-items))

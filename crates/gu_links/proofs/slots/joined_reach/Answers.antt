@@ -19,17 +19,17 @@ use Rattle.gu_links.proofs.slots.joined_reach.Goals as goal
 use Rattle.gu_links.proofs.slots.joined_reach.Goals.{then-is_over, else-is_over}
 
 pub is_over-requires-clause-ty : goal.is_over-requires-clause-ty
-is_over-requires-clause-ty c = (item_in c.args.s.now.facts.now c.args.reach.head c.types-ty-items.result.now c.types.ty-index c.types-ty-items.ensures c.types-test.true).0
+is_over-requires-clause-ty c = (item_in c.args.s.now.facts.now c.args.reach c.types-ty-items.result.now c.types.ty-index c.requires.head c.types-ty-items.ensures c.types-test.true).0
 
 pub slot_content-requires-clause-ty : goal.slot_content-requires-clause-ty
-slot_content-requires-clause-ty c = (item_in c.args.s.now.facts.now c.args.reach.head c.types-ty-items.result.now c.types.ty-index c.types-ty-items.ensures c.types-test.true).0
+slot_content-requires-clause-ty c = (item_in c.args.s.now.facts.now c.args.reach c.types-ty-items.result.now c.types.ty-index c.requires.head c.types-ty-items.ensures c.types-test.true).0
 
 pub slot_content-requires-clause-least : goal.slot_content-requires-clause-least
-slot_content-requires-clause-least c = (item_in c.args.s.now.facts.now c.args.reach.head c.types-ty-items.result.now c.types.ty-index c.types-ty-items.ensures c.types-test.true).1
+slot_content-requires-clause-least c = (item_in c.args.s.now.facts.now c.args.reach c.types-ty-items.result.now c.types.ty-index c.requires.head c.types-ty-items.ensures c.types-test.true).1
 
 pub slot_content-requires-clause-known : goal.slot_content-requires-clause-known
 slot_content-requires-clause-known c =
-    let i = item_in c.args.s.now.facts.now c.args.reach.head c.types-ty-items.result.now c.types.ty-index c.types-ty-items.ensures c.types-test.true in
+    let i = item_in c.args.s.now.facts.now c.args.reach c.types-ty-items.result.now c.types.ty-index c.requires.head c.types-ty-items.ensures c.types-test.true in
     one_of c.args.s.now.facts.now (λ (t : ℕ). Contains (cells_of c.args.known.now) (slot_cell c.args.s.now.facts.now t 0)) (Some c.args.reach) 0 (get_or c.types-ty-items.result.now c.types.ty-index 0)
     c.requires.known i.0 i.1 (sym c.is_over.ensures ∙ c.if-is_over.true)
 
@@ -52,4 +52,4 @@ types-preserved c = elim c.if-is_over.branch [
 ]
 
 pub returns-clause-value : goal.returns-clause-value
-returns-clause-value c x h = c.types.invariant.is x h ∙ ap (λ (ts : List ℕ). fold (join c.args.s.now.facts.now) Empty (map (slot_of c.args.s.now.facts.now x 0) ts)) (walked c.args.s.now.facts.now c.args.reach 0 c.types-ty-items.result.now c.types.ty-index c.types-ty-items.ensures c.types-test.false)
+returns-clause-value c x h = c.types.invariant.is x h ∙ ap (λ (ts : List ℕ). fold (join c.args.s.now.facts.now) Empty (map (slot_of c.args.s.now.facts.now x 0) ts)) (walked c.args.s.now.facts.now c.args.reach 0 c.types-ty-items.result.now c.types.ty-index c.requires.head c.types-ty-items.ensures c.types-test.false)

@@ -10,5 +10,5 @@ use Rattle.gu_links.proofs.slots.joined_reach.Given as goal
 abbrev pub invariant-types : goal.invariant-types
 invariant-types l = record {
   belongs : Belongs l.s.facts.now l.elements;
-  is : (x : Contents) → Has l.known x → l.elements ≡ joined l.s.facts.now x (filter (λ (t : ℕ). has_slot l.s.facts.now 0 t && in_reach l.s.facts.now (Some l.reach) t) (take l.ty-index l.ty-items));
+  is : (x : Contents) → Has l.known x → l.elements ≡ joined l.s.facts.now x (filter (λ (t : ℕ). has_slot l.s.facts.now 0 t && in_reach l.s.facts.now (Some l.fn.reach) t) (take l.ty-index l.ty-items));
 }

@@ -24,7 +24,7 @@ apply-requires-clause-known g c = let s = c.in_ok-s.s in nothing_known s.facts.n
 pub apply-requires-clause-enough : goal.apply-requires-clause-enough
 apply-requires-clause-enough g c =
     let s = c.in_ok-s.s in
-    subst (λ (link : Link). IsEnough s.facts.now s.links link []) (sym (ap (λ (links : List Link). link_at links 0) c.in_ok-s.ensures.links)) (root_enough s.facts.now s.links (I32 7) 0)
+    subst (λ (link : Link). IsEnough s.facts.now s.links link []) (sym (ap (λ (links : List Link). link_at links 0) c.in_ok-s.ensures)) (root_enough s.facts.now s.links (I32 7) 0)
 
 pub next_read-requires-2-clause-known : goal.next_read-requires-2-clause-known
 next_read-requires-2-clause-known g c = let s = c.in_ok-s.s in nothing_known s.facts.now s.longs s.links (link_at s.links 1)

@@ -2,7 +2,7 @@ use Rattle.std.proofs.Common.{rules, ◌∙◌, List, subst, sym}
 use Rattle.std.specs.Prelude.{All}
 use Rattle.gu_links.specs.declared.link.Link.{Link}
 use Rattle.gu_links.specs.Solutions.{Fits}
-use Rattle.gu_solve.proofs.Nothing.{system_of_nothing, same_system, empty_is_under_all}
+use Rattle.gu_solve.proofs.Nothing.{system_of_nothing, empty_is_under_all}
 use Rattle.gu_solve.proofs.tests.solved.Goals as goal
 
 pub new-requires-2 : goal.new-requires-2
@@ -11,14 +11,6 @@ new-requires-2 c =
     let longs = c.in_ok-longs.longs in
     system_of_nothing f longs 5 c.from_vec.result c.in_ok-facts.ensures.types c.in_ok-facts.ensures.funcs
     (subst (λ (links : List Link). All (Fits f longs 5) links) (sym c.from_vec.ensures) (c.requires f longs))
-
-pub close_from-requires-clause-system : goal.close_from-requires-clause-system
-close_from-requires-clause-system c =
-    let f = c.in_ok-facts.facts in
-    let longs = c.in_ok-longs.longs in
-    let e = c.in_ok-s.ensures in
-    same_system f c.in_ok-s.s.facts.now longs c.in_ok-s.s.longs 5 c.in_ok-s.s.cells c.args.links.items c.in_ok-s.s.links e.facts e.longs e.cells (e.links ∙ c.from_vec.ensures)
-    (system_of_nothing f longs 5 c.args.links.items c.in_ok-facts.ensures.types c.in_ok-facts.ensures.funcs (c.requires f longs))
 
 pub close_from-requires-clause-below : goal.close_from-requires-clause-below
 close_from-requires-clause-below c = empty_is_under_all c.in_ok-s.s.facts.now c.in_ok-s.s.links 5 c.from_vec-2.result (c.from_vec-2.ensures ∙ c.in_ok-start.ensures.items_if_clones_equal (λ y e. search rules))

@@ -1,4 +1,5 @@
 use Rattle.std.proofs.Common.{rules, ◌∙◌}
+use Rattle.gu_links.proofs.Regained.{is_system}
 use Rattle.gu_worklist.proofs.Marks.{readers_more, readers_all, keeps_on}
 use Rattle.gu_worklist.proofs.readers.add_readers.Goals as goal
 
@@ -10,5 +11,5 @@ ups-preserved c = let inv = c.ups.invariant in let h = c.in_ok-add_all.ensures i
 }
 
 pub returns-clause-readers : goal.returns-clause-readers
-returns-clause-readers c = readers_all c.args.s.now.facts.now c.args.s.now.longs c.args.s.now.cells c.args.s.now.links c.requires.system c.args.cell c.ups.left.waiting
+returns-clause-readers c = readers_all c.args.s.now.facts.now c.args.s.now.longs c.args.s.now.cells c.args.s.now.links (is_system c.args.s.now) c.args.cell c.ups.left.waiting
     (λ u number link lt at r. let inv = c.ups.invariant in inv.readers u number link (search rules) at r)

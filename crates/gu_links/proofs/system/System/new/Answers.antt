@@ -16,9 +16,8 @@ pub invariant_of-result : goal.invariant_of-result
 invariant_of-result c =
     let facts = c.args.facts.now in
     record {
-      room = c.requires.room;
+      system = ∣ c.requires ∣₁;
       few = let room = c.requires.room in let fits = c.ranges.cells.fits in omega arith;
-      named = named_fits facts c.args.longs c.args.cells c.args.links c.requires;
       indexed = subst (λ (links : List Link). IsIndexed facts links c.in_ok-index.index) c.as_slice.ensures c.in_ok-index.ensures;
       listed = subst (λ (links : List Link). AreListed facts c.args.cells links c.in_ok-index.index.cells c.in_ok-readers.readers) c.as_slice-2.ensures c.in_ok-readers.ensures;
     }

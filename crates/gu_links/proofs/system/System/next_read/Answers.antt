@@ -6,13 +6,14 @@ use Rattle.gu_links.specs.Solutions.{Fits}
 use Rattle.gu_links.specs.Kept.{fixed_once}
 use Rattle.gu_links.specs.Known.{IsKnown, link_at}
 use Rattle.gu_links.proofs.Onward.{link_read, next_for, is_read, is_new, is_below, is_onward, is_enough, is_end}
+use Rattle.gu_links.proofs.Regained.{is_system}
 use Rattle.gu_links.proofs.system.System.next_read.Goals as goal
 
 pub next_asked-requires-clause-fits : goal.next_asked-requires-clause-fits
 next_asked-requires-clause-fits c =
     let s = c.args.self.now in
     let e = link_read s.links c.as_slice.result.now c.args.link c.index-as_slice-link.result c.requires.link c.as_slice.ensures c.index-as_slice-link.is in
-    subst (λ (l : Link). Fits s.facts.now s.longs s.cells l) e (c.requires.system.fit c.args.link (Callable 0) c.requires.link)
+    subst (λ (l : Link). Fits s.facts.now s.longs s.cells l) e ((is_system s).fit c.args.link (Callable 0) c.requires.link)
 
 pub next_asked-requires-clause-fixed : goal.next_asked-requires-clause-fixed
 next_asked-requires-clause-fixed c =
@@ -47,7 +48,7 @@ pub returns-clause-below : goal.returns-clause-below
 returns-clause-below c =
     let s = c.args.self.now in
     let e = link_read s.links c.as_slice.result.now c.args.link c.index-as_slice-link.result c.requires.link c.as_slice.ensures c.index-as_slice-link.is in
-    is_below s.facts.now s.longs s.links (link_at s.links c.args.link) c.args.known.now c.requires.known s.cells s.room (c.requires.system.fit c.args.link (Callable 0) c.requires.link) c.next_asked.result
+    is_below s.facts.now s.longs s.links (link_at s.links c.args.link) c.args.known.now c.requires.known s.cells (is_system s).room ((is_system s).fit c.args.link (Callable 0) c.requires.link) c.next_asked.result
     (next_for s.facts.now s.links c.args.known.now (link_at s.links c.args.link) c.index-as_slice-link.result c.next_asked.result e c.next_asked.ensures)
 
 pub returns-clause-onward : goal.returns-clause-onward
