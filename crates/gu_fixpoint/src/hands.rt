@@ -2,7 +2,7 @@
 ghost use Rattle.std.specs.Prelude.{◌≡◌, ◌<◌, ◌≤◌, true, All, IfOk, OnOk, length, map};
 ghost use Rattle.std.specs.List.{range_with_len};
 ghost use Rattle.gu_cells.specs.Record.{at};
-ghost use Rattle.gu_links.specs.Solutions.{AllBelong, IsSystem, Solves};
+ghost use Rattle.gu_links.specs.Solutions.{AllBelong, Solves};
 ghost use Rattle.gu_fixpoint.specs.Hands.{AreBusy, IsReady, HasRun, Pairs};
 
 use crate::crew::Crew;
@@ -83,7 +83,6 @@ fn run_one<N: Ceilings, G: Gate>(
     workers: u32,
     gate: &G,
 )
-    requires system { IsSystem N.facts N.longs s.now.cells s.now.links }
     requires facts { (s.now.facts.now ≡ N.facts) × (s.now.longs ≡ N.longs) }
     requires some { 0 < workers }
     requires ready { IsReady workers cells.now.id hand.old.worker.of hand.old.worker.seat }
@@ -105,7 +104,6 @@ fn run_all<N: Ceilings + Send + Sync, G: Gate>(
     workers: u32,
     gate: &G,
 )
-    requires system { IsSystem N.facts N.longs s.now.cells s.now.links }
     requires facts { (s.now.facts.now ≡ N.facts) × (s.now.longs ≡ N.longs) }
     requires some { 0 < workers }
     requires ready { All (λ h. IsReady workers cells.now.id h.worker.of h.worker.seat) hands.old }
@@ -119,7 +117,7 @@ fn run_all<N: Ceilings + Send + Sync, G: Gate>(
         hands,
         workers as usize,
         &|_: usize, h: &mut Hand<N>|
-            requires { IsReady workers cells.now.id h.now.worker.of h.now.worker.seat × IsSystem N.facts N.longs s.now.cells s.now.links × ((s.now.facts.now ≡ N.facts) × (s.now.longs ≡ N.longs))
+            requires { IsReady workers cells.now.id h.now.worker.of h.now.worker.seat × ((s.now.facts.now ≡ N.facts) × (s.now.longs ≡ N.longs))
                 × (0 < workers) × (cells.now.cells ≡ s.now.cells) × AllBelong N.facts (at N.ceilings) × Solves N.facts s.now.links (at N.ceilings) }
             ensures { HasRun N.facts s.entry.now.links workers h.entry.now.worker.index h.entry.now.worker.seat h.exit.now.worker.index h.exit.now.done h.exit.now.worker.seat }
         { run_one(alloc, s, cells, h, workers, gate) },
@@ -136,7 +134,6 @@ pub(crate) fn run_list<N: Ceilings + Send + Sync, G: Gate>(
     crew: Crew,
     gate: &G,
 )
-    requires system { IsSystem N.facts N.longs s.now.cells s.now.links }
     requires facts { (s.now.facts.now ≡ N.facts) × (s.now.longs ≡ N.longs) }
     requires some { 0 < crew.workers }
     requires all { length hands.old.items ≡ crew.workers }

@@ -1,7 +1,7 @@
 //! Solving.
 ghost use Rattle.std.specs.Prelude.{◌≡◌, ◌<◌, ◌≤◌, All, IfOk, IsNone, MatchOption, length};
 ghost use Rattle.gu_cells.specs.Record.{at};
-ghost use Rattle.gu_links.specs.Solutions.{IsOf, IsSystem, Least};
+ghost use Rattle.gu_links.specs.Solutions.{IsOf, Least};
 ghost use Rattle.gu_fixpoint.specs.Track.{IsTrack};
 
 use crate::crew::{Crew, busy_workers};
@@ -18,7 +18,6 @@ use std::thread::Threads;
 
 /// The least solution, by one thread. `AllocError` only where memory is refused.
 fn alone(alloc: Global, s: &System<'_>) -> Result<List<Content>, AllocError>
-    requires system { IsSystem s.now.facts.now s.now.longs s.now.cells s.now.links }
     ensures length { IfOk result (λ r. length r ≡ s.now.cells) }
     ensures are_of { IfOk result (λ r. All (IsOf s.now.facts.now s.now.longs) r) }
     ensures least { IfOk result (λ r. Least s.now.facts.now s.now.links (at r)) }
@@ -36,7 +35,6 @@ fn together<N: Ceilings + Send + Sync, G: Gate>(
     workers: u32,
     gate: &G,
 ) -> Result<(List<Content>, Track), AllocError>
-    requires system { IsSystem N.facts N.longs s.now.cells s.now.links }
     requires facts { (s.now.facts.now ≡ N.facts) × (s.now.longs ≡ N.longs) }
     requires some { 0 < workers }
     requires length { length N.ceilings ≡ s.now.cells }
@@ -69,8 +67,7 @@ pub fn solve<G: Gate>(
     workers: u32,
     gate: &G,
 ) -> Result<(List<Content>, Option<Track>), AllocError>
-    requires system { IsSystem s.now.facts.now s.now.longs s.now.cells s.now.links }
-    requires workers { (1 ≤ workers) × (workers ≤ 64) }
+    requires { (1 ≤ workers) × (workers ≤ 64) }
     ensures length { IfOk result (λ r. length r.0 ≡ s.now.cells) }
     ensures are_of { IfOk result (λ r. All (IsOf s.now.facts.now s.now.longs) r.0) }
     ensures least { IfOk result (λ r. Least s.now.facts.now s.now.links (at r.0)) }

@@ -1,6 +1,6 @@
 //! Systems that are solved some times.
 ghost use Rattle.std.specs.Prelude.{◌≡◌, ◌≤◌, IfOk, length};
-ghost use Rattle.gu_links.specs.Solutions.{at, IsSystem, Least};
+ghost use Rattle.gu_links.specs.Solutions.{at, Least};
 ghost use Rattle.gu_solve_main.specs.Work.{IsRunnable};
 
 use crate::classes::facts_of;
@@ -65,8 +65,7 @@ fn solved(
     task: Task,
     counter: &Counter,
 ) -> Result<List<Content>, AllocError>
-    requires system { IsSystem s.now.facts.now s.now.longs s.now.cells s.now.links }
-    requires task { IsRunnable task }
+    requires { IsRunnable task }
     ensures { IfOk result (λ r. Least s.now.facts.now s.now.links (at r)) }
 {
     match task {
@@ -78,7 +77,6 @@ fn solved(
 
 /// The least solution, found by the worklist from empty cells.
 fn close(alloc: Global, s: &System<'_>) -> Result<List<Content>, AllocError>
-    requires { IsSystem s.now.facts.now s.now.longs s.now.cells s.now.links }
     ensures { IfOk result (λ r. Least s.now.facts.now s.now.links (at r)) }
 {
     let start = Vec::from_elem(alloc, Content::Empty, s.cells)?;
@@ -87,7 +85,6 @@ fn close(alloc: Global, s: &System<'_>) -> Result<List<Content>, AllocError>
 
 /// The least solution, found so many times by the worklist, once at least.
 fn close_times(alloc: Global, s: &System<'_>, times: u32) -> Result<List<Content>, AllocError>
-    requires { IsSystem s.now.facts.now s.now.longs s.now.cells s.now.links }
     ensures { IfOk result (λ r. Least s.now.facts.now s.now.links (at r)) }
 {
     for _ in 1..times {
@@ -105,8 +102,7 @@ fn solve_times<G: Gate>(
     times: u32,
     gate: &G,
 ) -> Result<List<Content>, AllocError>
-    requires system { IsSystem s.now.facts.now s.now.longs s.now.cells s.now.links }
-    requires workers { (1 ≤ workers) × (workers ≤ 64) }
+    requires { (1 ≤ workers) × (workers ≤ 64) }
     ensures { IfOk result (λ r. Least s.now.facts.now s.now.links (at r)) }
 {
     for _ in 1..times {

@@ -35,12 +35,6 @@ known_as f g longs longs' links link known e d h = subst (λ (x : Facts). IsKnow
 pub known_back : (f g : Facts) (longs longs' : List ℕ) (links : List Link) (link : Link) (known : List Item) → g ≡ f → longs' ≡ longs → IsKnown g longs' links link known → IsKnown f longs links link known
 known_back f g longs longs' links link known e d h = known_as g f longs' longs links link known (sym e) (sym d) h
 
-pub enough_as : (f g : Facts) (links : List Link) (link : Link) (known : List Item) → g ≡ f → IsEnough f links link known → IsEnough g links link known
-enough_as f g links link known e h = subst (λ (x : Facts). IsEnough x links link known) (sym e) h
-
-pub enough_back : (f g : Facts) (links : List Link) (link : Link) (known : List Item) → g ≡ f → IsEnough g links link known → IsEnough f links link known
-enough_back f g links link known e h = enough_as g f links link known (sym e) h
-
 pub is_of_as : (f g : Facts) (longs longs' : List ℕ) (a : Content) → g ≡ f → longs' ≡ longs → BelongsTo f longs a → IsOf g longs' a
 is_of_as f g longs longs' a e d h = subst (λ (x : Facts). IsOf x longs' a) (sym e) (subst (λ (xs : List ℕ). IsOf f xs a) (sym d) (record { belongs = h.0; listed = h.1 }))
 

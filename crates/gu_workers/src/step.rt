@@ -4,7 +4,7 @@ ghost use Rattle.std.specs.Prelude.{◌≡◌, ◌<◌, ◌≤◌, ◌∷◌, �
 ghost use Rattle.gu_cells.specs.Record.{at};
 ghost use Rattle.gu_cells.specs.Views.{IsSameSeat};
 ghost use Rattle.gu_links.specs.declared.link.Link.{Link};
-ghost use Rattle.gu_links.specs.Solutions.{AllBelong, IsReader, IsSystem, Solves};
+ghost use Rattle.gu_links.specs.Solutions.{AllBelong, IsReader, Solves};
 ghost use Rattle.gu_links.specs.Known.{link_at, IsKnown, IsEnough};
 ghost use Rattle.gu_workers.specs.Work.{AsksGiven};
 ghost use Rattle.gu_worklist.specs.Left.{IsLeftOf, Keeps};
@@ -29,7 +29,6 @@ fn look_up<N: Ceilings>(
     seat: &mut CellSeat<N>,
     link: usize,
 ) -> Result<Vec<(usize, Content)>, AllocError>
-    requires system { IsSystem N.facts N.longs s.now.cells s.now.links }
     requires facts { (s.now.facts.now ≡ N.facts) × (s.now.longs ≡ N.longs) }
     requires link { link < length s.now.links }
     requires cells { cells.now.cells ≡ s.now.cells }
@@ -59,7 +58,6 @@ fn ask<N: Ceilings>(
     seat: &mut CellSeat<N>,
     link: usize,
 ) -> Result<List<(usize, Content)>, AllocError>
-    requires system { IsSystem N.facts N.longs s.now.cells s.now.links }
     requires facts { (s.now.facts.now ≡ N.facts) × (s.now.longs ≡ N.longs) }
     requires link { link < length s.now.links }
     requires cells { cells.now.cells ≡ s.now.cells }
@@ -87,7 +85,6 @@ fn raise<N: Ceilings, G: Gate>(
     content: Content,
     left: &mut Left,
 ) -> Result<(), AllocError>
-    requires system { IsSystem N.facts N.longs s.now.cells s.now.links }
     requires facts { (s.now.facts.now ≡ N.facts) × (s.now.longs ≡ N.longs) }
     requires cells { cells.now.cells ≡ s.now.cells }
     requires seat { w.old.seat.of ≡ cells.now.id }
@@ -117,7 +114,6 @@ fn join_all<N: Ceilings, G: Gate>(
     asked: &[(usize, Content)],
     left: &mut Left,
 ) -> Result<(), AllocError>
-    requires system { IsSystem N.facts N.longs s.now.cells s.now.links }
     requires facts { (s.now.facts.now ≡ N.facts) × (s.now.longs ≡ N.longs) }
     requires cells { cells.now.cells ≡ s.now.cells }
     requires seat { w.old.seat.of ≡ cells.now.id }
@@ -146,7 +142,6 @@ pub(crate) fn step<N: Ceilings, G: Gate>(
     link: usize,
     left: &mut Left,
 ) -> Result<(), AllocError>
-    requires system { IsSystem N.facts N.longs s.now.cells s.now.links }
     requires facts { (s.now.facts.now ≡ N.facts) × (s.now.longs ≡ N.longs) }
     requires link { link < length s.now.links }
     requires cells { cells.now.cells ≡ s.now.cells }

@@ -4,7 +4,7 @@ ghost use Rattle.gu_contents.specs.declared.content.Content.{Content};
 ghost use Rattle.gu_cells.specs.Record.{at};
 ghost use Rattle.gu_cells.specs.Views.{IsSameSeat};
 ghost use Rattle.gu_links.specs.declared.link.Link.TheVariants.{Root};
-ghost use Rattle.gu_links.specs.Solutions.{AllBelong, IsSystem, Solves};
+ghost use Rattle.gu_links.specs.Solutions.{AllBelong, Solves};
 ghost use Rattle.gu_workers.specs.Work.{AsksGiven, IsWork};
 ghost use Rattle.gu_worklist.specs.Left.{IsLeftOf, Keeps};
 ghost use Rattle.gu_workers.specs.Steps.{Adds, Starts};
@@ -57,7 +57,6 @@ fn start<N: Ceilings, G: Gate>(
     link: usize,
     left: &mut Left,
 ) -> Result<(), AllocError>
-    requires system { IsSystem N.facts N.longs s.now.cells s.now.links }
     requires facts { (s.now.facts.now ≡ N.facts) × (s.now.longs ≡ N.longs) }
     requires of { 0 < w.old.of }
     requires link { link < length s.now.links }
@@ -90,7 +89,6 @@ pub fn work<N: Ceilings, G: Gate>(
     w: &mut Worker<N>,
     gate: &G,
 ) -> Result<(), AllocError>
-    requires system { IsSystem N.facts N.longs s.now.cells s.now.links }
     requires facts { (s.now.facts.now ≡ N.facts) × (s.now.longs ≡ N.longs) }
     requires of { 0 < w.old.of }
     requires cells { cells.now.cells ≡ s.now.cells }

@@ -1,4 +1,4 @@
-use Rattle.std.proofs.Common.{rules, ◌∙◌, ◌≡◌, ◌++◌, length, subst, sym}
+use Rattle.std.proofs.Common.{rules, ◌∙◌, ◌≡◌, ◌++◌, subst, sym}
 use Rattle.gu_fixpoint.specs.Hands.{HasRun, Pairs}
 use Rattle.gu_fixpoint.proofs.Busy.{first_written}
 use Rattle.gu_fixpoint.proofs.Running.{first_ran}

@@ -6,7 +6,7 @@ use Rattle.gu_contents.specs.declared.facts.Facts.{Facts}
 use Rattle.gu_links.specs.declared.link.Link.{Link}
 use Rattle.gu_links.specs.declared.link.Link.TheVariants.{Root}
 use Rattle.gu_links.specs.Solutions.{Fits, IsSystem}
-use Rattle.gu_solve.proofs.Nothing.{system_of_nothing, same_system}
+use Rattle.gu_solve.proofs.Nothing.{system_of_nothing}
 use Rattle.gu_fixpoint.proofs.tests.two_workers_run_at_once.Goals as goal
 
 roots_fit : (f : Facts) (longs : List ℕ) → All (Fits f longs 2) (Root (I32 5) 0 ∷ Root (I32 7) 1 ∷ [])
@@ -19,13 +19,4 @@ new-requires-2 g c =
     let f = c.in_ok-facts.facts in
     let longs = c.in_ok-longs.longs in
     subst (λ (links : List Link). IsSystem f longs 2 links) (sym (c.from_vec-links.ensures ∙ c.in_ok-vec.ensures.items))
-    (system_of_nothing f longs 2 (Root (I32 5) 0 ∷ Root (I32 7) 1 ∷ []) c.in_ok-facts.ensures.types c.in_ok-facts.ensures.funcs (roots_fit f longs))
-
-pub solve-requires-clause-system : goal.solve-requires-clause-system
-solve-requires-clause-system g c κs =
-    let f = c.in_ok-facts.facts in
-    let longs = c.in_ok-longs.longs in
-    let e = c.in_ok-s.ensures in
-    same_system f c.in_ok-s.s.facts.now longs c.in_ok-s.s.longs 2 c.in_ok-s.s.cells (Root (I32 5) 0 ∷ Root (I32 7) 1 ∷ []) c.in_ok-s.s.links e.facts e.longs e.cells
-    (e.links ∙ (c.from_vec-links.ensures ∙ c.in_ok-vec.ensures.items))
     (system_of_nothing f longs 2 (Root (I32 5) 0 ∷ Root (I32 7) 1 ∷ []) c.in_ok-facts.ensures.types c.in_ok-facts.ensures.funcs (roots_fit f longs))

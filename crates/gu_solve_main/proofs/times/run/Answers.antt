@@ -9,12 +9,3 @@ new-requires-2 g c =
     let cells = c.in_ok-links.field-0.cells in
     let fit : c.in_ok-fit.fit ≡ true = search rules in
     same_system f f longs longs cells cells c.as_slice.result.now c.from_vec.result refl refl refl (c.from_vec.ensures ∙ sym c.as_slice.ensures.value) (c.in_ok-fit.ensures fit longs)
-
-pub solved-requires-clause-system : goal.solved-requires-clause-system
-solved-requires-clause-system g c κs within =
-    let f = c.in_ok-facts.facts in
-    let longs = c.in_ok-longs.longs in
-    let cells = c.in_ok-links.field-0.cells in
-    let fit : c.in_ok-fit.fit ≡ true = search rules in
-    let e = c.in_ok-s.ensures in
-    same_system f c.in_ok-s.s.facts.now longs c.in_ok-s.s.longs cells c.in_ok-s.s.cells c.as_slice.result.now c.in_ok-s.s.links e.facts e.longs e.cells (e.links ∙ (c.from_vec.ensures ∙ sym c.as_slice.ensures.value)) (c.in_ok-fit.ensures fit longs)
