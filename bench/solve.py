@@ -2,10 +2,11 @@
 """Times the worklist and the workers on systems of links.
 
 Usage: bench/solve.py [--sizes LINKS,..] [--kinds NAME,..] [--workers COUNT,..] [PROGRAM]
-       (default: 1000,10000,100000,1000000, but the cone up to 10000 alone; chains,stars,shallow,cone;
+       (default: 1000,10000,100000,1000000, but cones up to 100000 alone; chains,stars,shallow,cone;
        1,2,4,8; crates/gu_solve_main/out/gu_solve_main, as `rt run` in that crate builds it)
 
-With the defaults it takes some three minutes. The cone at 100,000 links takes a minute by itself.
+With the defaults it takes two to three minutes on a machine that has nothing else to do. Cones of a
+million links, which have to be asked for, take some minutes more.
 
 Prints, for each kind of system and each size, how many joins per link two workers ask for, and the
 seconds by the clock of one solution: by the worklist, and by each number of workers. A time is that
@@ -16,7 +17,8 @@ The worklist tells nobody how often it applies a link, so the joins of workers a
 their gate. In chains and stars a link asks for one join each time that it is applied, so there the
 joins are the applications. In the cone a link that goes through a field asks each time for one join
 per class that it reaches; how many these are on average is printed as the reach. In the shallow cone
-each link reaches one class, or one and those directly below it. The worklist begins with every link,
+each link reaches one class, or one and those directly below it; but a link is applied again for each
+class below its own, however far, whose field rises. The worklist begins with every link,
 so it applies each once more, at first, than workers do.
 """
 import argparse
@@ -26,7 +28,7 @@ import sys
 from measure import built, run
 
 # The kinds, and up to how many links each is timed where no sizes are asked for.
-KINDS = {"chains": 1_000_000, "stars": 1_000_000, "shallow": 1_000_000, "cone": 10_000}
+KINDS = {"chains": 1_000_000, "stars": 1_000_000, "shallow": 100_000, "cone": 100_000}
 SIZES = (1_000, 10_000, 100_000, 1_000_000)
 # How many joins all further turns ask for together, about, and how many runs the fastest is of.
 WORK = 1_000_000
