@@ -10,6 +10,7 @@ mod env;
 mod leaf;
 mod nesting;
 mod numbers;
+mod objects;
 mod references;
 mod row;
 mod scope;
