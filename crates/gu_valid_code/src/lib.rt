@@ -8,6 +8,7 @@ mod constant;
 mod control;
 mod env;
 mod leaf;
+mod locals;
 mod nesting;
 mod numbers;
 mod objects;
@@ -18,6 +19,6 @@ mod state;
 mod tables;
 mod walk;
 
-pub use body::{NoMemory, check_code};
+pub use body::{NoMemory, Workspace, check_code, check_code_in};
 pub use constant::check_constant;
 pub use env::Env;
