@@ -1,6 +1,6 @@
 -- What a list has at a place.
 use Rattle.std.specs.Slice.{IsItemAt}
-use Rattle.std.proofs.Common.{true, take, Bor, ℕ, zero, suc, ◌≡◌, ◌+◌, ◌-◌, ◌<◌, ◌≤◌, List, [], ◌∷◌, ◌++◌, ◌∙◌, ap, sym, refl, length, get_or, slice_get, Some, arith, map, reverse, option_map, replicate, drop, Bool}
+use Rattle.std.proofs.Common.{true, Bor, ℕ, zero, suc, ◌≡◌, ◌+◌, ◌-◌, ◌<◌, ◌≤◌, List, [], ◌∷◌, ◌++◌, ◌∙◌, ap, sym, refl, length, get_or, slice_get, Some, arith, map, reverse, option_map, replicate, drop, Bool}
 use Rattle.std.proofs.lemmas.List.{append_assoc, drop_more, get_or-reverse, length-reverse}
 use Rattle.std.proofs.lemmas.Option.{slice_get-get_or, slice_get-map}
 use Rattle.gu_types.specs.declared.types.ValType.{ValType}

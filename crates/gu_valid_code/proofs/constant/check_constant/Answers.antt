@@ -1,8 +1,6 @@
-use Rattle.std.proofs.Common.{sym, ◌∙◌, ◌≡◌, ap, List, [], drop, ◌+◌}
+use Rattle.std.proofs.Common.{sym, ◌∙◌, ◌≡◌, ap, List, drop, ◌+◌}
 use Rattle.gu_syntax.specs.Code.{Code, code_of, ins_of, next}
-use Rattle.gu_types.specs.declared.types.ValType.{ValType}
 use Rattle.gu_syntax.specs.declared.instr.Instr.{Instr}
-use Rattle.gu_model.specs.TypingContext.{Around}
 use Rattle.gu_model.specs.ValidConstants.{with_globals, nowhere, nothing}
 use Rattle.gu_valid_code.specs.Env.{context_of}
 use Rattle.gu_valid_code.proofs.Constants.{sets_no_local, code_at, rest_of, passed, not_constant, not_typed}
