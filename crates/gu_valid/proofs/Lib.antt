@@ -2,3 +2,4 @@ pub mod Counted
 pub mod Holding
 pub mod Lists
 pub mod Names
+pub mod Lacks

@@ -48,10 +48,11 @@ impl Facts<'_> {
         if let Some(number) = self.first_element(alloc)? {
             return Ok(Some(Part::Element(number)));
         }
-        if !self.count_holds() {
+        let (bodies_lack, first_code) = self.first_code(alloc)?;
+        if !self.count_holds(bodies_lack) {
             return Ok(Some(Part::Count));
         }
-        if let Some(number) = self.first_code(alloc)? {
+        if let Some(number) = first_code {
             return Ok(Some(Part::Code(number)));
         }
         if let Some(number) = self.first_seg(alloc)? {
@@ -97,7 +98,8 @@ fn first_part(alloc: Global, m: &Module) -> Result<Option<Part>, AllocError>
 }
 
 /// Whether a module is valid (core specification 3.0, 3.5 Modules). It stays as it is. All parts are
-/// gone over once, in their order, and none is looked at behind the first that fails.
+/// gone over once, in their order, and none is looked at behind the first that fails, but that code
+/// is looked at once for both the count and its types.
 ///
 /// `Invalid` with the first part that fails, exactly where the module is not valid. `NoMemory` only
 /// where memory is refused, where a section has 2^31 entries or more, or where there are 2^32 types

@@ -14,7 +14,7 @@ ghost use Rattle.gu_valid.specs.Facts.{IsFacts};
 use crate::constants::constants;
 use crate::declared::declared_of;
 use crate::kinds::{is_function, is_heap, is_tag, kinds_of};
-use crate::needs::data_count_holds;
+use crate::needs::any_needs;
 use crate::spaces::{
     count_memories, elems_of, funcs_of, globals_of, imported_globals, tables_of, tags_of,
 };
@@ -32,8 +32,8 @@ pub(crate) struct Facts<'m> {
     pub(crate) kinds: Vec<&'m SubType>,
     /// How many of its globals are imported.
     pub(crate) imported_globals: u32,
-    /// Whether the number of its data segments is said before its code where the code needs it.
-    pub(crate) count_holds: bool,
+    /// Whether a constant expression needs the number of its data segments.
+    pub(crate) constants_need: bool,
     pub(crate) env: Env<'m>,
 }
 
@@ -82,7 +82,7 @@ impl<'m> Facts<'m> {
             module: m,
             kinds: kinds_of(alloc, m.types.groups.as_slice())?,
             imported_globals: imported_globals(m),
-            count_holds: data_count_holds(m, &bodies),
+            constants_need: any_needs(&bodies),
             env,
         })
     }

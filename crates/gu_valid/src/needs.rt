@@ -1,11 +1,11 @@
 //! Whether a module's code needs the number of data segments (core specification 3.0, 5.5 Modules,
 //! data count section).
-ghost use Rattle.std.specs.Prelude.{◌≡◌, ◌||◌, not, map};
+ghost use Rattle.std.specs.Prelude.{◌≡◌, map};
 ghost use Rattle.std.specs.List.{list_any};
 ghost use Rattle.gu_syntax.specs.Code.{code_of, ins_of};
-ghost use Rattle.gu_model.specs.ValidContext.{body_of, constants, needs_count, needs_count_body, needs_count_code, needs_count_ins};
+ghost use Rattle.gu_model.specs.ValidContext.{body_of, needs_count_body, needs_count_code, needs_count_ins};
 
-use gu_syntax::{Body, Choice, Func, Instr, Module};
+use gu_syntax::{Body, Choice, Func, Instr};
 
 #[cycle(needing)]
 #[tactic(auto, using(gu_syntax::proofs::Shapes::shapes))]
@@ -43,7 +43,8 @@ fn code_needs(code: &[Instr]) -> bool
     false
 }
 
-fn any_needs(bodies: &[&Body]) -> bool
+/// Whether one of the expressions needs it.
+pub(crate) fn any_needs(bodies: &[&Body]) -> bool
     ensures { result ≡ list_any needs_count_body (map (λ b. b.now) bodies.now) }
 {
     for body in bodies {
@@ -54,31 +55,21 @@ fn any_needs(bodies: &[&Body]) -> bool
     false
 }
 
-fn any_func_needs(funcs: &[Func]) -> bool
+/// Whether the body of a function needs it.
+pub(crate) fn func_needs(func: &Func) -> bool
+    ensures { result ≡ needs_count_body (body_of func.now) }
+{
+    code_needs(func.body.code.as_slice())
+}
+
+/// Whether the body of one of the functions needs it.
+pub(crate) fn any_func_needs(funcs: &[Func]) -> bool
     ensures { result ≡ list_any needs_count_body (map body_of funcs.now) }
 {
     for func in funcs {
-        if code_needs(func.body.code.as_slice()) {
+        if func_needs(func) {
             return true;
         }
     }
     false
-}
-
-/// Whether the number of data segments has to be said before the code, in a module with these
-/// constant expressions.
-fn needs_data_count(m: &Module, bodies: &[&Body]) -> bool
-    requires { map (λ b. b.now) bodies.now ≡ constants m.now }
-    ensures { result ≡ needs_count m.now }
-{
-    any_func_needs(m.funcs.as_slice()) || any_needs(bodies)
-}
-
-/// Whether the number of data segments is said before the code where the code needs it, in a module
-/// with these constant expressions. Where it is said, the code is not looked at.
-pub(crate) fn data_count_holds(m: &Module, bodies: &[&Body]) -> bool
-    requires { map (λ b. b.now) bodies.now ≡ constants m.now }
-    ensures { result ≡ (not (needs_count m.now) || m.now.has_count) }
-{
-    m.has_count || !needs_data_count(m, bodies)
 }

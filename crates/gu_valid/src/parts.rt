@@ -3,7 +3,7 @@ ghost use Rattle.std.specs.Prelude.{◌≡◌, ◌||◌, length, not};
 ghost use Rattle.gu_model.specs.ValidContext.{needs_count};
 ghost use Rattle.gu_model.specs.Valid.{FuncHolds, ImportHolds, MemoryHolds, TagHolds, is_valid_desc, is_valid_start};
 ghost use Rattle.gu_valid.specs.Check.{FindsFirstWithout};
-ghost use Rattle.gu_valid.specs.Facts.{IsFacts};
+ghost use Rattle.gu_valid.specs.Facts.{IsFacts, bodies_lack_count};
 
 use crate::facts::Facts;
 use crate::kinds::{is_start, limits_hold, memory_holds};
@@ -80,12 +80,14 @@ impl Facts<'_> {
         None
     }
 
-    /// Whether the number of data segments is said before the code where the code needs it.
-    pub(crate) fn count_holds(&self) -> bool
-        requires { IsFacts self.now }
+    /// Whether the number of data segments is said before the code where the code needs it, by
+    /// whether it is not said and a body needs it.
+    pub(crate) fn count_holds(&self, bodies_lack: bool) -> bool
+        requires facts { IsFacts self.now }
+        requires bodies { bodies_lack ≡ bodies_lack_count self.now.module.now }
         ensures { result ≡ (not (needs_count self.now.module.now) || self.now.module.now.has_count) }
     {
-        self.count_holds
+        !bodies_lack && (self.module.has_count || !self.constants_need)
     }
 
     /// Whether the start function, if any, is there, and has no parameters and no results.

@@ -18,6 +18,7 @@ use Rattle.gu_types.specs.Depth.{types_in, types_of, parent, smaller, first_supe
 use Rattle.gu_rec.specs.Closed.{Closed, ClosedGroup, positions, close_group, close_types, close_on, closed_types, closed_type}
 use Rattle.gu_rec.specs.Tests.{eq_found, same_type}
 use Rattle.gu_rec.specs.Sub.{is_sub, IsHeapOf, IsValOf, kind_of, line, line_within, next_line, root_line, abs_line, same_heap}
+use Rattle.gu_rec.proofs.Decided.{own_on}
 use Rattle.gu_model.specs.Index.{comp_as}
 use Rattle.gu_model.specs.TypingContext.{top_of_comp, is_valid_heap, is_valid_val}
 
@@ -181,3 +182,24 @@ module _ (list : TypeList) where
       of_heap : (a : HeapType) → is_valid_heap list a ≡ true → IsHeapOf list a
       of_heap (H.Abs k) g = tt
       of_heap (H.Idx i) g = in_range i g
+
+  -- a heap type is below itself
+  pub itself : (a : HeapType) → is_sub list a a ≡ true
+  unfolding is_sub line
+  itself (H.Abs A.Any) = refl
+  itself (H.Abs A.Eq) = refl
+  itself (H.Abs A.I31) = refl
+  itself (H.Abs A.AnyStruct) = refl
+  itself (H.Abs A.AnyArray) = refl
+  itself (H.Abs A.Bot) = refl
+  itself (H.Abs A.AnyFunc) = refl
+  itself (H.Abs A.NoFunc) = refl
+  itself (H.Abs A.Extern) = refl
+  itself (H.Abs A.NoExtern) = refl
+  itself (H.Abs A.Exn) = refl
+  itself (H.Abs A.NoExn) = refl
+  itself (H.Idx i) = own_on list (H.Idx i)
+
+  -- heap types that are alike are below each other
+  pub alike : (a b : HeapType) → a ≡ b → is_sub list a b ≡ true
+  alike a b e = ap (λ (c : HeapType). is_sub list a c) (sym e) ∙ itself a

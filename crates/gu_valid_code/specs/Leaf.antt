@@ -1,11 +1,12 @@
 -- What the instructions whose results rest on their operands do with operands that were taken.
-use Rattle.std.specs.Prelude.{ℕ, Bool, true, false, List, [], ◌∷◌, Option}
+use Rattle.std.specs.Prelude.{ℕ, Bool, true, false, List, [], ◌∷◌, ◌++◌, Option, Some}
 use Rattle.gu_types.specs.declared.types.ValType.{ValType}
 use Rattle.gu_types.specs.declared.types.ValType.TheVariants.{I32}
 use Rattle.gu_syntax.specs.declared.instr.Instr.{Instr}
 use Rattle.gu_syntax.specs.declared.instr.Instr.TheVariants as I
-use Rattle.gu_model.specs.TypingContext.{Context, ◌>>=◌}
-use Rattle.gu_model.specs.TypingRows.{Row}
+use Rattle.gu_model.specs.TypingContext.{Context, ◌>>=◌, idx_or_null}
+use Rattle.gu_model.specs.Index.{func_type}
+use Rattle.gu_model.specs.TypingRows.{Row, goes, leaves}
 use Rattle.gu_model.specs.TypingShape.{Kind, Shape, non_null, pop_kind, push, pushes}
 use Rattle.gu_model.specs.Typing as typing
 
@@ -30,6 +31,17 @@ non_null_branch C ends k s = non_null k >>= λ r. typing.non_null_branch C r s e
 -- the row of a call of a function
 abbrev pub call : Context → (func : ℕ) → Option Row
 call C f = typing.func_at C f >>= typing.calls []
+
+-- the row of a call of a reference to a function of a type
+abbrev pub call_ref : Context → (type : ℕ) → Option Row
+call_ref C x = func_type C.types x >>= typing.calls (idx_or_null x ∷ [])
+
+-- the rows of branches to a label
+abbrev pub branch : (label : Option (List ValType)) → Option Row
+branch label = label >>= λ ts. Some (leaves ts)
+
+abbrev pub branch_if : (label : Option (List ValType)) → Option Row
+branch_if label = label >>= λ ts. Some (goes (ts ++ I32 ∷ []) ts)
 
 -- whether an instruction sets a local
 abbrev pub sets_local : Instr → Bool

@@ -105,8 +105,8 @@ impl State {
     /// Does what a row says. Whether its operands are there. `AllocError` only where memory is
     /// refused.
     #[inline(always)]
-    pub(crate) fn apply(&mut self, env: &Env<'_>, row: Row<'_>) -> Result<bool, AllocError>
-        ensures { IfOk result (λ typed. Did typed (typing.type_row env.now.types.now (Some (row_of row.entry)) self.old) self.new) }
+    pub(crate) fn apply(&mut self, env: &Env<'_>, row: &Row<'_>) -> Result<bool, AllocError>
+        ensures { IfOk result (λ typed. Did typed (typing.type_row env.now.types.now (Some (row_of row.now)) self.old) self.new) }
     {
         if !self.pop_few(env, row.top) || !self.pop_below(env, row.below) {
             return Ok(false);

@@ -68,8 +68,8 @@ pub fn check_constant(
 ) -> Result<bool, AllocError>
     ensures { IfOk result (λ typed. typed ≡ is_constant_of (with_globals globals (context_of env.now)) ty (code_of body.now.code)) }
 {
-    let scope = Scope::new(alloc, &[], Vec::new(alloc));
-    let mut state = State::begin(alloc, &[], &[])?;
+    let scope = Scope::new(alloc);
+    let mut state = State::new(alloc);
     for instr in body.code.as_slice() {
         if !is_constant(env, globals, instr) || !type_leaf(env, &scope, &mut state, instr)? {
             return Ok(false);

@@ -61,7 +61,7 @@ pub(crate) fn matches(env: &Env<'_>, below: &[ValType], above: &[ValType]) -> bo
 
 /// A call: it takes the parameters, and what names the callee, and puts the results.
 #[inline(always)]
-fn calls<'a>(signature: Signature<'a>, callee: Few) -> Row<'a>
+pub(crate) fn calls<'a>(signature: Signature<'a>, callee: Few) -> Row<'a>
     ensures { Some (row_of result) ≡ typing.calls (few_of callee) (function_of signature.entry) }
 {
     Row {

@@ -1,5 +1,5 @@
 //! What bodies are checked in (core specification 3.0, 3.1 Conventions, contexts).
-ghost use Rattle.std.specs.Prelude.{◌≡◌, ◌&&◌, false, slice_get, option_map, is_some};
+ghost use Rattle.std.specs.Prelude.{◌≡◌, ◌&&◌, true, false, slice_get, option_map, is_some};
 ghost use Rattle.gu_types.specs.Depth.{types_of};
 ghost use Rattle.gu_rec.specs.Sub.{is_sub_ref, is_sub_val};
 ghost use Rattle.gu_model.specs.Index.{FuncType, func_type, func_type_in, struct_type, array_type};
@@ -61,6 +61,18 @@ fn top_of_abs(abs: Abs) -> Abs
         Abs::AnyFunc | Abs::NoFunc => Abs::AnyFunc,
         Abs::Extern | Abs::NoExtern => Abs::Extern,
         Abs::Exn | Abs::NoExn => Abs::Exn,
+    }
+}
+
+/// Whether two heap types are written alike.
+#[inline(always)]
+fn is_alike(a: HeapType, b: HeapType) -> bool
+    ensures { result ≡ true → a ≡ b }
+{
+    match (a, b) {
+        (HeapType::Idx(i), HeapType::Idx(j)) => i == j,
+        (HeapType::Abs(kind), HeapType::Abs(other)) => kind == other,
+        _ => false,
     }
 }
 
@@ -196,10 +208,10 @@ impl<'a> Env<'a> {
             && !self.is_valid_heap(above.heap)
     }
 
-    /// Whether the first reference type is below the second. Of an index of no type, which no valid
-    /// module has, it is what the definition says.
+    /// Whether the first reference type is below the second, whose heap type is written otherwise.
+    #[inline(never)]
     #[tactic(auto, using(crate::proofs::Strays::of_val))]
-    pub fn is_sub_ref(&self, below: RefType, above: RefType) -> bool
+    fn is_sub_other(&self, below: RefType, above: RefType) -> bool
         ensures { result ≡ is_sub_ref self.now.types.now below above }
     {
         if self.is_valid_heap(below.heap) && self.is_valid_heap(above.heap) {
@@ -208,5 +220,18 @@ impl<'a> Env<'a> {
                 .is_sub_val(ValType::Ref(below), ValType::Ref(above));
         }
         self.is_sub_stray(below, above)
+    }
+
+    /// Whether the first reference type is below the second. Of an index of no type, which no valid
+    /// module has, it is what the definition says.
+    #[inline(always)]
+    #[tactic(auto, using(crate::proofs::Strays::alike))]
+    pub fn is_sub_ref(&self, below: RefType, above: RefType) -> bool
+        ensures { result ≡ is_sub_ref self.now.types.now below above }
+    {
+        if is_alike(below.heap, above.heap) {
+            return !below.null || above.null;
+        }
+        self.is_sub_other(below, above)
     }
 }

@@ -12,17 +12,18 @@ ghost use Rattle.gu_valid_code.specs.Leaf.{sets_local};
 ghost use Rattle.gu_valid_code.specs.Rows.{row_of};
 ghost use Rattle.gu_valid_code.specs.Scope.{parts_of};
 
-use crate::control::{call, control_row};
+use crate::control::{call, calls, control_row};
 use crate::env::Env;
 use crate::numbers::operator;
-use crate::references::{abs, abs_or_null};
-use crate::row::Row;
+use crate::objects::{array_get, array_set, cast, struct_get, struct_set};
+use crate::references::{abs, abs_or_null, idx_or_null};
+use crate::row::{Few, Row};
 use crate::scope::{Scope, split_last};
 use crate::state::{Operand, State, non_null, nulls, suits};
 use gu_optab::NumOp;
 use gu_syntax::{BranchTable, Instr};
 use gu_types::Abs;
-use gu_types::ValType::{self, I32, I64};
+use gu_types::ValType::{self, I32, I64, Ref};
 use std::alloc::AllocError;
 
 /// What a choice without a type gives: the operands are numbers of one type, or unknown.
@@ -297,7 +298,7 @@ fn apply(env: &Env<'_>, state: &mut State, row: Option<Row<'_>>) -> Result<bool,
     ensures { IfOk result (λ typed. Did typed (type_row env.now.types.now (option_map row_of row.entry) state.old) state.new) }
 {
     match row {
-        Some(row) => state.apply(env, row),
+        Some(row) => state.apply(env, &row),
         None => Ok(false),
     }
 }
@@ -316,6 +317,51 @@ fn call_func(env: &Env<'_>, state: &mut State, func: u32) -> Result<bool, AllocE
     ensures { IfOk result (λ typed. Did typed (type_row env.now.types.now (leaf.call (context_of env.now) func) state.old) state.new) }
 {
     apply(env, state, call(env, func))
+}
+
+/// A call of a reference to a function of a type.
+#[inline(never)]
+fn call_ref(env: &Env<'_>, state: &mut State, ty: u32) -> Result<bool, AllocError>
+    ensures { IfOk result (λ typed. Did typed (type_row env.now.types.now (leaf.call_ref (context_of env.now) ty) state.old) state.new) }
+{
+    let Some(signature) = env.function_at(ty) else {
+        return Ok(false);
+    };
+    state.apply(env, &calls(signature, Few::One(idx_or_null(ty))))
+}
+
+/// A branch to a label.
+#[inline(never)]
+fn branch(env: &Env<'_>, state: &mut State, label: Option<&[ValType]>) -> Result<bool, AllocError>
+    ensures { IfOk result (λ typed. Did typed (type_row env.now.types.now (leaf.branch (option_map (λ ts. ts.now) label.entry)) state.old) state.new) }
+{
+    let Some(types) = label else {
+        return Ok(false);
+    };
+    if !state.pop_all(env, types) {
+        return Ok(false);
+    }
+    state.stop();
+    Ok(true)
+}
+
+/// A branch to a label where an i32 is not 0.
+#[inline(never)]
+fn branch_if(
+    env: &Env<'_>,
+    state: &mut State,
+    label: Option<&[ValType]>,
+) -> Result<bool, AllocError>
+    ensures { IfOk result (λ typed. Did typed (type_row env.now.types.now (leaf.branch_if (option_map (λ ts. ts.now) label.entry)) state.old) state.new) }
+{
+    let Some(types) = label else {
+        return Ok(false);
+    };
+    if !state.pop_choice(env, types) {
+        return Ok(false);
+    }
+    state.push_all(types)?;
+    Ok(true)
 }
 
 /// An instruction that goes by its row.
@@ -351,6 +397,15 @@ pub(crate) fn type_leaf(
         Instr::I64Const(_) => give(state, I64),
         Instr::Num(op) => operate(env, state, *op),
         Instr::Call(func) => call_func(env, state, *func),
+        Instr::CallRef(ty) => call_ref(env, state, *ty),
+        Instr::Br(label) => branch(env, state, scope.label(*label)),
+        Instr::BrIf(label) => branch_if(env, state, scope.label(*label)),
+        Instr::StructGet(ty, field) => struct_get(env, state, *ty, *field),
+        Instr::StructSet(ty, field) => struct_set(env, state, *ty, *field),
+        Instr::ArrayGet(ty) => array_get(env, state, *ty),
+        Instr::ArraySet(ty) => array_set(env, state, *ty),
+        Instr::RefCast(of) => cast(env, state, *of, Ref(*of)),
+        Instr::RefTest(of) => cast(env, state, *of, I32),
         Instr::RefIsNull => is_null(state),
         Instr::RefAsNonNull => as_non_null(state),
         Instr::BrOnNull(label) => br_on_null(env, state, scope.label(*label)),

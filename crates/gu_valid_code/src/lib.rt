@@ -8,8 +8,10 @@ mod constant;
 mod control;
 mod env;
 mod leaf;
+mod locals;
 mod nesting;
 mod numbers;
+mod objects;
 mod references;
 mod row;
 mod scope;
@@ -17,6 +19,6 @@ mod state;
 mod tables;
 mod walk;
 
-pub use body::{NoMemory, check_code};
+pub use body::{NoMemory, Workspace, check_code, check_code_in};
 pub use constant::check_constant;
 pub use env::Env;

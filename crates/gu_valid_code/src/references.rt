@@ -15,6 +15,7 @@ use gu_types::ValType::{I32, Ref};
 use gu_types::{Abs, FieldType, HeapType, RefType, Storage, ValType};
 
 /// A reference to an abstract heap type, which may be null.
+#[inline(always)]
 pub(crate) fn abs_or_null(abs: Abs) -> ValType
     ensures { result ≡ around.abs_or_null abs }
 {
@@ -25,6 +26,7 @@ pub(crate) fn abs_or_null(abs: Abs) -> ValType
 }
 
 /// A reference to an abstract heap type.
+#[inline(always)]
 pub(crate) fn abs(abs: Abs) -> ValType
     ensures { result ≡ around.abs abs }
 {
@@ -35,6 +37,7 @@ pub(crate) fn abs(abs: Abs) -> ValType
 }
 
 /// A reference to the type with an index, which may be null.
+#[inline(always)]
 pub(crate) fn idx_or_null(index: u32) -> ValType
     ensures { result ≡ around.idx_or_null index }
 {
@@ -45,6 +48,7 @@ pub(crate) fn idx_or_null(index: u32) -> ValType
 }
 
 /// A reference to the type with an index.
+#[inline(always)]
 pub(crate) fn idx(index: u32) -> ValType
     ensures { result ≡ around.idx index }
 {
@@ -55,7 +59,8 @@ pub(crate) fn idx(index: u32) -> ValType
 }
 
 /// Whether something is stored packed.
-fn is_packed(storage: Storage) -> bool
+#[inline(always)]
+pub(crate) fn is_packed(storage: Storage) -> bool
     ensures { result ≡ typing.is_packed storage }
 {
     match storage {
@@ -75,6 +80,7 @@ fn is_numeric(storage: Storage) -> bool
 }
 
 /// The type of the value of a field on the stack.
+#[inline(always)]
 pub(crate) fn field_value(field: FieldType) -> ValType
     ensures { result ≡ typing.field_value field }
 {
@@ -133,7 +139,8 @@ fn of_tree<'a>(env: &Env<'a>, of: RefType, given: ValType) -> Option<Row<'a>>
 }
 
 /// A field of a structure type.
-fn field_at(env: &Env<'_>, ty: u32, field: u32) -> Option<FieldType>
+#[inline(always)]
+pub(crate) fn field_at(env: &Env<'_>, ty: u32, field: u32) -> Option<FieldType>
     ensures { result ≡ typing.field_of (context_of env.now) ty field }
 {
     env.fields_at(ty)?.get(field as usize).copied()

@@ -1,8 +1,11 @@
 //! What stands round a place in a body (core specification 3.0, 3.1 Conventions, contexts).
 ghost use Rattle.std.specs.Prelude.{◌≡◌, [], ◌∷◌, Some, None, OnOk, option_map, slice_get};
 ghost use Rattle.gu_model.specs.Typing as typing;
+ghost use Rattle.gu_valid_code.specs.Env.{function_of};
 ghost use Rattle.gu_valid_code.specs.Scope.{left, parts_of};
 
+use crate::env::Signature;
+use crate::locals::declare;
 use gu_types::ValType;
 use std::alloc::{AllocError, Global};
 use std::marker::Model;
@@ -34,15 +37,32 @@ pub(crate) fn split_last(types: &[ValType]) -> Option<(&[ValType], ValType)>
 }
 
 impl<'a> Scope<'a> {
-    /// No labels yet, round a body of a function with these results and locals.
-    pub(crate) fn new(alloc: Global, results: &'a [ValType], locals: Vec<ValType>) -> Scope<'a>
-        ensures { result ≡ record { labels = []; results = results.now; locals = locals.items } }
+    /// Round no code: no labels, results or locals.
+    pub(crate) fn new(alloc: Global) -> Scope<'a>
+        ensures { result ≡ record { labels = []; results = []; locals = [] } }
     {
         Scope {
             labels: Vec::new(alloc),
-            results,
-            locals,
+            results: &[],
+            locals: Vec::new(alloc),
         }
+    }
+
+    /// Begins anew, round the body of a function of a type with these runs of locals. `AllocError`
+    /// only where memory is refused.
+    pub(crate) fn begin(
+        &mut self,
+        signature: Signature<'a>,
+        runs: &[(u32, ValType)],
+    ) -> Result<(), AllocError>
+        ensures { OnOk result (self.new ≡ typing.around (function_of signature.entry) (typing.spread runs.now)) }
+    {
+        self.labels.clear();
+        self.labels.push(signature.results)?;
+        self.results = signature.results;
+        self.locals.clear();
+        self.locals.extend_from_slice(signature.params)?;
+        declare(&mut self.locals, runs)
     }
 
     /// The types that a label takes, counted outwards from the innermost one.

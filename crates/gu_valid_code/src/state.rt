@@ -10,7 +10,7 @@ ghost use Rattle.gu_valid_code.specs.Rows.{few_of, below_of, row_of};
 ghost use Rattle.gu_valid_code.specs.State.{Did, Took, is_endless, is_nothing, kind_of};
 
 use crate::env::Env;
-use crate::references::has_default;
+use crate::locals::{set_defaults, set_params};
 use gu_types::{RefType, ValType};
 use std::alloc::{AllocError, Global};
 use std::marker::Model;
@@ -28,11 +28,13 @@ pub(crate) enum Operand {
 }
 
 /// The operands, the top last, whether anything may stand below them, and which locals are set.
+/// Lists that blocks are done with are spare: blocks to come put their operands there.
 #[derive(Debug, Drop)]
 pub(crate) struct State {
     operands: Vec<Operand>,
     any: bool,
     set: Vec<bool>,
+    spare: Vec<Vec<Operand>>,
 }
 
 /// The operands round a block that is open, and whether anything may stand below them.
@@ -92,27 +94,32 @@ pub(crate) fn nulls(found: Operand) -> bool
 }
 
 impl State {
-    /// Where a body begins: without operands. Parameters are set, and so are declared locals whose
-    /// types have a default. `AllocError` only where memory is refused.
-    pub(crate) fn begin(
-        alloc: Global,
-        params: &[ValType],
-        declared: &[ValType],
-    ) -> Result<State, AllocError>
-        ensures { IfOk result (λ state. state ≡ record { types = []; any = false; set = map (λ p. true) params.now ++ map around.has_default declared.now }) }
+    /// No operands and no locals.
+    pub(crate) fn new(alloc: Global) -> State
+        ensures { result ≡ record { types = []; any = false; set = [] } }
     {
-        let mut set = Vec::new(alloc);
-        for _param in params {
-            set.push(true)?;
-        }
-        for ty in declared {
-            set.push(has_default(*ty))?;
-        }
-        Ok(State {
+        State {
             operands: Vec::new(alloc),
             any: false,
-            set,
-        })
+            set: Vec::new(alloc),
+            spare: Vec::new(alloc),
+        }
+    }
+
+    /// Begins anew, where a body begins: without operands. Parameters are set, and so are declared
+    /// locals whose types have a default. `AllocError` only where memory is refused.
+    pub(crate) fn begin(
+        &mut self,
+        params: &[ValType],
+        runs: &[(u32, ValType)],
+    ) -> Result<(), AllocError>
+        ensures { OnOk result (self.new ≡ record { types = []; any = false; set = map (λ p. true) params.now ++ map around.has_default (body.spread runs.now) }) }
+    {
+        self.operands.clear();
+        self.any = false;
+        self.set.clear();
+        set_params(&mut self.set, params)?;
+        set_defaults(&mut self.set, runs)
     }
 
     /// Takes an operand of any type, or `None` where there is none.
@@ -255,9 +262,22 @@ impl State {
         ensures any { result.any ≡ self.old.any }
         ensures left { self.new ≡ record self.old { types = []; any = false } }
     {
+        let mut fresh = self.spare.pop().unwrap_or(Vec::new(alloc));
+        fresh.clear();
         Outer {
-            operands: replace(&mut self.operands, Vec::new(alloc)),
+            operands: replace(&mut self.operands, fresh),
             any: replace(&mut self.any, false),
+        }
+    }
+
+    /// Puts a list aside for a block to come, unless it has no memory or none can be had for it.
+    fn put_aside(&mut self, list: Vec<Operand>)
+        ensures { self.new ≡ self.old }
+    {
+        if list.capacity() > 0 {
+            match self.spare.push(list) {
+                Ok(()) | Err(_) => {}
+            }
         }
     }
 
@@ -266,8 +286,9 @@ impl State {
         ensures { self.new ≡ closed outer self.old }
     {
         let Outer { operands, any } = outer;
-        self.operands = operands;
+        let left = replace(&mut self.operands, operands);
         self.any = any;
+        self.put_aside(left);
     }
 
     /// Notes that a local is set, and that it was not before, if so. `AllocError` only where memory

@@ -68,6 +68,7 @@ fn reaches(
 }
 
 /// Whether what each catch carries suits the label that it branches to.
+#[inline(never)]
 fn all_reach(
     alloc: Global,
     env: &Env<'_>,
@@ -132,6 +133,7 @@ fn local_tee(
 /// The code of a block, between its parameters and its results. Behind it the operands are what
 /// stood round it.
 #[cycle(walk)]
+#[inline(always)]
 fn check_inner<'a>(
     alloc: Global,
     env: &Env<'a>,
@@ -155,6 +157,7 @@ fn check_inner<'a>(
 
 /// The code of a block, and its results behind it.
 #[cycle(walk)]
+#[inline(always)]
 fn check_last<'a>(
     alloc: Global,
     env: &Env<'a>,
@@ -176,6 +179,7 @@ fn check_last<'a>(
 
 /// A block: it takes its parameters and puts its results. The label of a loop takes its parameters.
 #[cycle(walk)]
+#[inline(never)]
 fn check_nested<'a>(
     alloc: Global,
     env: &Env<'a>,
@@ -200,6 +204,7 @@ fn check_nested<'a>(
 
 /// The first branch of a choice, which takes an i32 besides its parameters.
 #[cycle(walk)]
+#[inline(never)]
 fn check_first<'a>(
     alloc: Global,
     env: &Env<'a>,
@@ -222,6 +227,7 @@ fn check_first<'a>(
 
 /// The second branch of a choice, and the results behind it.
 #[cycle(walk)]
+#[inline(never)]
 fn check_second<'a>(
     alloc: Global,
     env: &Env<'a>,

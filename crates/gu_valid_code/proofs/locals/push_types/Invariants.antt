@@ -1,5 +1,5 @@
 use Rattle.std.proofs.Common.{◌≡◌, ◌++◌, replicate}
-use Rattle.gu_valid_code.proofs.body.push_copies.Given as goal
+use Rattle.gu_valid_code.proofs.locals.push_types.Given as goal
 
 abbrev pub invariant-copies : goal.invariant-copies
 invariant-copies l = l.types.items ++ replicate l.left l.ty ≡ l.initial.types.items ++ replicate l.count l.ty
