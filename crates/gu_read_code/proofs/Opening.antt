@@ -1,20 +1,20 @@
 -- Instructions that hold code, and those that hold none.
-use Rattle.std.proofs.Common.{ℕ, ◌-◌, ◌<◌, ◌≡◌, refl, ap, ◌∙◌, sym, List, [], ◌∷◌, ◌++◌, Bool, true, false, Result, Ok, Err}
+use Rattle.std.proofs.Common.{ℕ, suc, length, ◌-◌, ◌<◌, ◌≡◌, refl, ap, ◌∙◌, sym, List, [], ◌∷◌, ◌++◌, Bool, true, false, Result, Ok, Err}
 use Rattle.std.specs.Borrow.{Bor}
 use Rattle.gu_syntax.specs.Code.{Ins, Code, leaf, block, loop, choice, try_table, done, next, ins_of}
 use Rattle.gu_syntax.specs.declared.instr.BlockType.{BlockType}
 use Rattle.gu_syntax.specs.declared.instr.Catch.{Catch}
 use Rattle.gu_syntax.specs.declared.instr.Instr.{Instr}
-use Rattle.gu_syntax.specs.Reading.{Read, got, ◌>>=◌, made_at, vector_at, block_type_at, catch_at, opened, Nested, block_at, second_at, if_at, try_at, leaf_at, ins_at}
+use Rattle.gu_syntax.specs.Reading.{Read, got, ◌>>=◌, made_at, vector_at, block_type_at, catch_at, opened, Nested, block_at, second_at, if_at, try_at, leaf_at, ins_at, until_at}
 use Rattle.gu_syntax.proofs.Decodes.{Heads}
 use Rattle.gu_syntax.proofs.Instructions.{leaf_heads, spells_leaf}
 use Rattle.gu_syntax.proofs.Expressions.{tree_back}
 use Rattle.gu_read_parts.specs.declared.stop.Stop.{Stop}
 use Rattle.gu_read_parts.specs.declared.stop.Stop.TheVariants as S
 use Rattle.gu_read_parts.specs.Gives.{Fails, Gives, GivesAs}
-use Rattle.gu_read_code.specs.Codes.{Lacks}
+use Rattle.gu_read_code.specs.Codes.{Lacks, block_codes}
 use Rattle.gu_read_code.proofs.Rows.{lacks_row}
-use Rattle.gu_read_code.proofs.Turns.{opened_room}
+use Rattle.gu_read_code.proofs.Turns.{opened_room, GoesOn, goes_on, GivesIns}
 
 -- what goes on behind a stop stops there
 pub fails_bind : {X Y : Type 0} (stop : Stop) (read : Read X) (f : X → List ℕ → Read Y) → Fails stop read → Fails stop (read >>= f)
@@ -115,3 +115,10 @@ flat_fails stop nested room left op text h e = fails_as stop (made_at leaf (leaf
 pub flat_gives : (result : Result (Instr × Bor (List ℕ)) Stop) (nested : Nested) (room left op : ℕ) (text : List ℕ) → Lacks (0x02 ∷ 0x03 ∷ 0x04 ∷ 0x1F ∷ []) op → Gives result (leaf_at left op text) → GivesAs ins_of result (ins_at nested room left op text)
 flat_gives (Ok x) nested room left op text h e = flat_got nested room left op text x.1.now x.0 h e
 flat_gives (Err stop) nested room left op text h e = flat_fails stop nested room left op text h e
+
+-- an instruction that ends no block and opens none
+pub flat_goes : (split : Bool) (op : ℕ) → Lacks block_codes op → GoesOn split op
+flat_goes split op lacks = goes_on split op lacks.1.1.1.1.0 (λ _. lacks.1.1.1.0)
+
+pub short_got : (room op : ℕ) (more rest : List ℕ) (instr : Instr) → Lacks block_codes op → leaf_at (suc (length more)) op more ≡ got instr rest → GivesIns room op more (got (ins_of instr) rest)
+short_got room op more rest instr lacks e fuel enough = flat_got (until_at fuel) room (suc (length more)) op more rest instr (lacks.0, (lacks.1.0, (lacks.1.1.0, (lacks.1.1.1.1.1.0, tt)))) e

@@ -8,7 +8,7 @@ use Rattle.gu_syntax.specs.Reading.{Size, Read, got, stops, refused, ◌>>=◌, 
 use Rattle.gu_syntax.proofs.Decodes.{bind_got, value_is, rest_is, fault_is, got-stops, stops-got}
 use Rattle.gu_read_parts.specs.declared.stop.Stop.{Stop}
 use Rattle.gu_read_parts.specs.declared.stop.Stop.TheVariants as S
-use Rattle.gu_read_parts.specs.Gives.{Fails, Gives, item_of}
+use Rattle.gu_read_parts.specs.Gives.{Fails, Gives, item_of, front_of, front_as}
 use Rattle.gu_read_code.specs.declared.entries.Entry.{Entry}
 use Rattle.gu_read_code.specs.Entries.{total, IsEntry, GivesEntry, held_runs, held_of, held, inside_at}
 use Rattle.gu_read_code.proofs.Merging.{total-merged}
@@ -38,6 +38,18 @@ size_made make at left (stops fault) = refl
 
 pub sized_made : {X Y : Type 0} (make : X → Y) (at : List ℕ → Read X) (text : List ℕ) → sized_at (made_at make at) text ≡ made_of make (sized_at at text)
 sized_made make at text = size_made make at (length text) (u32_as Size text)
+
+-- a content that has its size before it, and what is read of it
+content_whole : {X : Type 0} (at : List ℕ → Read X) (left size : ℕ) (text content rest : List ℕ) (test : Bool) → cond test (refused Size left) (got (take size text) (drop size text)) ≡ got content rest → cond test (refused Size left) (whole (drop size text) (at (take size text))) ≡ whole rest (at content)
+content_whole at left size text content rest true h = cc
+content_whole at left size text content rest false h = ap (λ t. whole t (at (take size text))) (rest_is (take size text) content (drop size text) rest h) ∙ ap (λ t. whole rest (at t)) (value_is (take size text) content (drop size text) rest h)
+
+size_whole : {X : Type 0} (at : List ℕ → Read X) (left : ℕ) (size : Read ℕ) (content rest : List ℕ) → (size >>= λ n text. front_of Size left n text) ≡ got content rest → (size >>= content_at at left) ≡ whole rest (at content)
+size_whole at left (got n text) content rest h = content_whole at left n text content rest (nat_lt (length text) n) h
+size_whole at left (stops fault) content rest h = cc
+
+pub sized_whole : {X : Type 0} (at : List ℕ → Read X) (text content rest : List ℕ) → front_as Size text ≡ got content rest → sized_at at text ≡ whole rest (at content)
+sized_whole at text content rest h = size_whole at (length text) (u32_as Size text) content rest h
 
 -- content that is read alike
 size_same : {X : Type 0} (at other : List ℕ → Read X) → ((text : List ℕ) → at text ≡ other text) → (left : ℕ) (size : Read ℕ) → (size >>= content_at at left) ≡ (size >>= content_at other left)

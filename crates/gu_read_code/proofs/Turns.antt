@@ -1,5 +1,7 @@
 -- Instructions that are read one by one.
-use Rattle.std.proofs.Common.{ℕ, zero, suc, ◌-◌, ◌≤◌, ◌<◌, ◌≡◌, ◌≢◌, refl, ap, ◌∙◌, sym, List, [], ◌∷◌, ◌++◌, length, nat_eq, Bool, true, false, arith}
+use Rattle.std.proofs.Common.{ℕ, zero, suc, ◌-◌, ◌≤◌, ◌<◌, ◌≡◌, ◌≢◌, refl, ap, ◌∙◌, sym, List, [], ◌∷◌, ◌++◌, length, take, drop, nat_eq, Bool, true, false, arith}
+use Rattle.std.proofs.Math.Seq.{drop-length, take-length}
+use Rattle.std.proofs.lemmas.List.{drop-append-le, take-append-le, length-append}
 use Rattle.std.proofs.lemmas.Bool.{cond-false}
 use Rattle.gu_syntax.specs.Code.{Ins, Code, done, next, ins_of, code_of}
 use Rattle.gu_syntax.specs.declared.instr.Instr.{Instr}
@@ -122,6 +124,30 @@ code_fails (S.Refused asked left) room split bytes is op rest more e h one reads
     let whole = until_at fuel room split bytes in
     let t = turns whole room split is op rest more e (reads fuel enough) in
     sym (next_is whole room split is op more h t) ∙ ap (λ (r : Read Ins). behind is (r >>= λ ins others. made_at (next_of ins) (until_at t.fuel room split) others)) (one t.fuel t.enough)
+
+-- the instructions of a block lie on those of the blocks around it
+
+-- these are read, from a place on, and the others are still to be read
+pub record ReadsOnto (room : ℕ) (split : Bool) (bytes : List ℕ) (below : List Instr) (from : ℕ) (pending : List Instr) (rest : List ℕ) : Type 0 where
+  pub reads : ReadsAll room split bytes (drop from pending) rest
+  pub kept : take from pending ≡ below
+  pub above : from ≤ length pending
+
+pub begins_onto : (room : ℕ) (split : Bool) (bytes : List ℕ) (below : List Instr) (from : ℕ) → from ≡ length below → ReadsOnto room split bytes below from below bytes
+begins_onto room split bytes below from e = record {
+  reads = rw (e, drop-length below) (begins room split bytes);
+  kept = rw e (take-length below);
+  above = omega (arith, e);
+}
+
+pub goes_onto : (room : ℕ) (split : Bool) (bytes : List ℕ) (below : List Instr) (from : ℕ) (pending after : List Instr) (i : Instr) (op : ℕ) (rest more behind : List ℕ) → after ≡ pending ++ i ∷ [] → rest ≡ op ∷ more → GoesOn split op → GivesIns room op more (got (ins_of i) behind) → length behind ≤ length more → ReadsOnto room split bytes below from pending rest → ReadsOnto room split bytes below from after behind
+goes_onto room split bytes below from pending after i op rest more behind added e goes one fewer onto =
+    let last : List Instr = i ∷ [] in
+    record {
+      reads = rw (added, drop-append-le from pending last onto.above) (code_goes_on room split bytes (drop from pending) i op rest more behind e goes one fewer onto.reads);
+      kept = ap (take from) added ∙ take-append-le from pending last onto.above ∙ onto.kept;
+      above = omega (arith, onto.above, ap length added, length-append pending last);
+    }
 
 missing : (fuel : ℕ) (whole : Read (Code × Bool)) (room : ℕ) (split : Bool) (is : List Instr) → 0 < fuel → behind is (until_at fuel room split []) ≡ whole → whole ≡ refused Opcode 0
 missing zero whole room split is h so = absurd (omega (arith, h))

@@ -6,6 +6,10 @@ abbrev pub Lacks : List ℕ → ℕ → Type 0
 Lacks [] code = Unit {0}
 Lacks (other ∷ others) code = (code ≢ other) × Lacks others code
 
+-- what opens, parts or ends a block
+abbrev pub block_codes : List ℕ
+block_codes = 0x02 ∷ 0x03 ∷ 0x04 ∷ 0x05 ∷ 0x0B ∷ 0x1F ∷ []
+
 -- variables, entries of tables, the sizes of memories, and constants
 abbrev pub variable_codes : List ℕ
 variable_codes = 0x20 ∷ 0x21 ∷ 0x22 ∷ 0x23 ∷ 0x24 ∷ 0x25 ∷ 0x26 ∷ 0x3F ∷ 0x40 ∷ 0x41 ∷ 0x42 ∷ []

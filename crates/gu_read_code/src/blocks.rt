@@ -9,7 +9,20 @@ use gu_types::{HeapType, RefType, ValType};
 use std::alloc::Global;
 
 /// A block type (5.4.1 Control Instructions).
+#[inline(always)]
 pub fn read_block_type(bytes: &[u8]) -> Result<(BlockType, &[u8]), Stop>
+    ensures value { Gives result (block_type_at bytes.now) }
+    ensures inside { left_of result ≤ length bytes.now }
+{
+    match bytes.split_first() {
+        Some((0x40, rest)) => Ok((BlockType::Empty, rest)),
+        _ => read_any_type(bytes),
+    }
+}
+
+/// The same, whatever type it is.
+#[inline(never)]
+fn read_any_type(bytes: &[u8]) -> Result<(BlockType, &[u8]), Stop>
     ensures value { Gives result (block_type_at bytes.now) }
     ensures inside { left_of result ≤ length bytes.now }
 {

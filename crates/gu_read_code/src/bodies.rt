@@ -1,12 +1,12 @@
 //! Expressions (core specification 3.0, 5.4 Instructions, expressions).
-ghost use Rattle.std.specs.Prelude.{◌≡◌, ◌≤◌, length};
+ghost use Rattle.std.specs.Prelude.{[], ◌≡◌, ◌≤◌, length, IfOk};
 ghost use Rattle.gu_syntax.specs.Reading.{body_at};
 ghost use Rattle.gu_read_parts.specs.Gives.{Gives, left_of};
 
 use crate::code::read_until;
 use gu_read_parts::{Part, Stop};
-use gu_syntax::Body;
-use std::alloc::Global;
+use gu_syntax::{Body, Instr};
+use std::alloc::{AllocError, Global};
 
 /// How many blocks may be open at once in an expression.
 const ROOM: u32 = 1000;
@@ -23,7 +23,28 @@ pub fn expression(alloc: Global, bytes: &[u8]) -> Result<(Body, &[u8]), Stop>
     ensures value { Gives result (body_at 1000 bytes.now) }
     ensures inside { left_of result ≤ length bytes.now }
 {
-    let (branch, rest) = read_until(alloc, ROOM, FIRST, false, bytes)?;
+    let mut pending = new_stack(alloc)?;
+    expression_on(alloc, &mut pending, bytes)
+}
+
+/// A stack of no instructions, with room for some.
+pub fn new_stack(alloc: Global) -> Result<Vec<Instr>, AllocError>
+    ensures { IfOk result (λ stack. stack.items ≡ []) }
+{
+    Vec::with_capacity(alloc, FIRST)
+}
+
+/// The same with room that one expression leaves to the next: instructions lie on the `pending` ones
+/// until their block ends, and some may be left there where it stops.
+pub fn expression_on<'a>(
+    alloc: Global,
+    pending: &mut Vec<Instr>,
+    bytes: &'a [u8],
+) -> Result<(Body, &'a [u8]), Stop>
+    ensures value { Gives result (body_at 1000 bytes.now) }
+    ensures inside { left_of result ≤ length bytes.now }
+{
+    let (branch, rest) = read_until(alloc, ROOM, false, pending, bytes)?;
     Ok((branch.code, rest))
 }
 

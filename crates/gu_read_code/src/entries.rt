@@ -1,17 +1,17 @@
 //! Code entries (core specification 3.0, 5.5.13 Code Section).
 ghost use Rattle.std.specs.Prelude.{◌≡◌, ◌≤◌, length, IfOk, IfErr};
 ghost use Rattle.gu_read_parts.specs.declared.answer.ReadErr.TheVariants.{NoMemory};
-ghost use Rattle.gu_read_parts.specs.Gives.{left_of};
-ghost use Rattle.gu_read_code.specs.Entries.{GivesEntry};
+ghost use Rattle.gu_read_parts.specs.Gives.{Gives, left_of};
+ghost use Rattle.gu_read_code.specs.Entries.{GivesEntry, inside_at};
 ghost use Rattle.gu_syntax.specs.Reading.{entry_at};
 ghost use Rattle.gu_read_code.specs.Answers.{PassesEntry, RefusesEntry};
 ghost use Rattle.gu_read_code.specs.Answers.{HasEntry, HasTooMany, IsCounted};
 
-use crate::bodies::expression;
+use crate::bodies::{expression_on, new_stack};
 use crate::locals::read_locals;
 use gu_bytes::Cursor;
-use gu_read_parts::{Part, ReadErr, Stop, Which, read_sized, refusal_ahead};
-use gu_syntax::Body;
+use gu_read_parts::{ReadErr, Stop, Which, close, read_content, refusal_ahead};
+use gu_syntax::{Body, Instr};
 use gu_types::{List, ValType};
 use std::alloc::Global;
 
@@ -40,26 +40,38 @@ pub fn code_entry(alloc: Global, bytes: &[u8]) -> Result<(Entry, &[u8]), Stop>
     ensures value { GivesEntry result (entry_at 1000 bytes.now) }
     ensures inside { left_of result ≤ length bytes.now }
 {
-    read_sized::<Inside>(alloc, bytes)
+    let mut pending = new_stack(alloc)?;
+    code_entry_on(alloc, &mut pending, bytes)
 }
 
-/// What is inside the size of an entry, as a part of the grammar.
-struct Inside;
+/// The same with room that one entry leaves to the next: instructions lie on the `pending` ones until
+/// their block ends, and some may be left there where it stops.
+pub fn code_entry_on<'a>(
+    alloc: Global,
+    pending: &mut Vec<Instr>,
+    bytes: &'a [u8],
+) -> Result<(Entry, &'a [u8]), Stop>
+    ensures value { GivesEntry result (entry_at 1000 bytes.now) }
+    ensures inside { left_of result ≤ length bytes.now }
+{
+    let (content, rest) = read_content(bytes)?;
+    close(read_inside(alloc, pending, content), rest)
+}
 
-impl Part for Inside {
-    ghost use Rattle.gu_read_code.specs.Entries.{inside_at};
-
-    type Value = Entry;
-
-    ghost at = { inside_at 1000 };
-
-    fn read(alloc: Global, bytes: &[u8]) -> Result<(Entry, &[u8]), Stop> {
-        let (locals, rest) = read_locals(alloc, bytes)?;
-        let (body, rest) = expression(alloc, rest)?;
-        match locals {
-            Some(locals) => Ok((Entry::Whole { locals, body }, rest)),
-            None => Ok((Entry::TooMany, rest)),
-        }
+/// What is inside the size of an entry.
+fn read_inside<'a>(
+    alloc: Global,
+    pending: &mut Vec<Instr>,
+    bytes: &'a [u8],
+) -> Result<(Entry, &'a [u8]), Stop>
+    ensures value { Gives result (inside_at 1000 bytes.now) }
+    ensures inside { left_of result ≤ length bytes.now }
+{
+    let (locals, rest) = read_locals(alloc, bytes)?;
+    let (body, rest) = expression_on(alloc, pending, rest)?;
+    match locals {
+        Some(locals) => Ok((Entry::Whole { locals, body }, rest)),
+        None => Ok((Entry::TooMany, rest)),
     }
 }
 

@@ -24,6 +24,8 @@ mod bulk;
 mod control;
 mod prefixed;
 mod reference;
+mod short;
 mod variable;
 
+pub use short::read_short;
 pub use variable::read_variable as read_leaf;

@@ -11,5 +11,5 @@ mod locals;
 #[cfg(test)]
 mod tests;
 
-pub use bodies::{Expressions, expression};
-pub use entries::{Entry, code_entry, read_entry};
+pub use bodies::{Expressions, expression, expression_on};
+pub use entries::{Entry, code_entry, code_entry_on, read_entry};

@@ -1,5 +1,5 @@
 //! The locals of a function (core specification 3.0, 5.5.13 Code Section).
-ghost use Rattle.std.specs.Prelude.{◌≡◌, ◌+◌, ◌<◌, ◌≤◌, ◌^◌, length, IfOk, OnOk};
+ghost use Rattle.std.specs.Prelude.{[], ◌≡◌, ◌+◌, ◌<◌, ◌≤◌, ◌^◌, length, IfOk, OnOk};
 ghost use Rattle.gu_syntax.specs.Expressions.{same_val};
 ghost use Rattle.gu_syntax.specs.Reading.{made_at, vector_at, run_at};
 ghost use Rattle.gu_read_parts.specs.Gives.{Gives, left_of};
@@ -13,6 +13,9 @@ use std::alloc::{AllocError, Global};
 /// How many locals a tree can count.
 const MOST: u64 = 0xFFFF_FFFF;
 
+/// How many runs are made room for at first, at most.
+const FEW: u32 = 4;
+
 /// Runs of locals.
 type Runs = List<(u32, ValType)>;
 
@@ -23,7 +26,7 @@ pub fn read_locals(alloc: Global, bytes: &[u8]) -> Result<(Option<Runs>, &[u8]),
     ensures inside { left_of result ≤ length bytes.now }
 {
     let (count, mut rest) = read_u32(bytes)?;
-    let mut merged = List::new(alloc);
+    let mut merged = no_runs(alloc, count)?;
     let mut counted = 0;
     'runs: for _ in 0..count {
         let (run, behind) = read_run(rest)?;
@@ -35,6 +38,13 @@ pub fn read_locals(alloc: Global, bytes: &[u8]) -> Result<(Option<Runs>, &[u8]),
         return Ok((None, rest));
     }
     Ok((Some(merged), rest))
+}
+
+/// No runs, with room for as many as are said to follow, if they are few.
+fn no_runs(alloc: Global, count: u32) -> Result<Runs, AllocError>
+    ensures { IfOk result (λ runs. runs ≡ []) }
+{
+    Ok(List::from_vec(Vec::with_capacity(alloc, count.min(FEW) as usize)?))
 }
 
 /// A run: how many locals, and their type.

@@ -15,6 +15,7 @@ use gu_syntax::Instr;
 use std::alloc::Global;
 
 /// Instructions that have a number behind a prefix.
+#[inline(never)]
 pub fn read_prefixed(alloc: Global, op: u8, bytes: &[u8]) -> Result<(Instr, &[u8]), Stop>
     requires variable { Lacks variable_codes op }
     requires control { Lacks control_codes op }
@@ -45,6 +46,18 @@ pub fn read_prefixed(alloc: Global, op: u8, bytes: &[u8]) -> Result<(Instr, &[u8
 /// The number behind a prefix, if the bytes begin with one.
 #[inline(always)]
 fn read_number(bytes: &[u8]) -> Option<(u32, &[u8])>
+    ensures value { option_map (λ x. (x.0, x.1.now)) result ≡ unsigned_at 32 bytes.now }
+    ensures inside { IfSome result (λ x. length x.1.now ≤ length bytes.now) }
+{
+    match bytes.split_first() {
+        Some((byte, rest)) if *byte < 128 => Some((u32::from(*byte), rest)),
+        _ => read_long_number(bytes),
+    }
+}
+
+/// The same of more bytes than one.
+#[inline(never)]
+fn read_long_number(bytes: &[u8]) -> Option<(u32, &[u8])>
     ensures value { option_map (λ x. (x.0, x.1.now)) result ≡ unsigned_at 32 bytes.now }
     ensures inside { IfSome result (λ x. length x.1.now ≤ length bytes.now) }
 {

@@ -5,7 +5,7 @@ ghost use Rattle.gu_read_parts.specs.Gives.{Gives, left_of};
 ghost use Rattle.gu_syntax.specs.declared.instr.Instr.TheVariants as I;
 
 use crate::leaf::control::read_control;
-use crate::leaf::prefixed::read_operator;
+use crate::leaf::prefixed::{read_operator, read_prefixed};
 use gu_read_parts::{Stop, read_s32, read_s64, read_u32};
 use gu_syntax::Instr;
 use std::alloc::Global;
@@ -32,6 +32,7 @@ pub fn read_variable(alloc: Global, op: u8, bytes: &[u8]) -> Result<(Instr, &[u8
         0x41 => read_i32_const(bytes),
         0x42 => read_i64_const(bytes),
         0x45..=0xC4 => read_operator(op, bytes),
+        0xFB..=0xFC => read_prefixed(alloc, op, bytes),
         _ => read_control(alloc, op, bytes),
     }
 }

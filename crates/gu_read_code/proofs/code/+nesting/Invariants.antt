@@ -1,5 +1,5 @@
 use Rattle.std.proofs.Common.{◌+◌, ◌*◌, ◌≤◌, length}
-use Rattle.gu_read_code.proofs.Turns.{ReadsAll}
+use Rattle.gu_read_code.proofs.Turns.{ReadsOnto}
 use Rattle.gu_read_code.proofs.code.+nesting.Given as goal
 
 abbrev pub decreases-read_block : goal.decreases-read_block
@@ -22,7 +22,7 @@ decreases-read_until l = 3 * l.room + 2
 
 abbrev pub invariant-read_until-code : goal.invariant-read_until-code
 invariant-read_until-code l = record {
-  reads : ReadsAll l.room l.may_split l.bytes l.code l.rest;
+  onto : ReadsOnto l.room l.may_split l.bytes l.fn.pending.items l.from l.pending.items l.rest;
   inside : length l.rest ≤ length l.bytes;
 }
 

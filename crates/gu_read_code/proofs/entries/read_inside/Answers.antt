@@ -4,7 +4,7 @@ use Rattle.gu_types.specs.declared.types.ValType.{ValType}
 use Rattle.gu_syntax.specs.Reading.{got}
 use Rattle.gu_read_code.specs.Entries.{held_of}
 use Rattle.gu_read_code.proofs.Sizing.{inside_got, inside_fails}
-use Rattle.gu_read_code.proofs.entries.InsidePart.read.Goals as goal
+use Rattle.gu_read_code.proofs.entries.read_inside.Goals as goal
 
 pub returns-in_err-body-clause-value : goal.returns-in_err-body-clause-value
 returns-in_err-body-clause-value c =

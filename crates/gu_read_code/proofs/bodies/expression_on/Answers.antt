@@ -6,7 +6,7 @@ use Rattle.gu_syntax.specs.declared.instr.Instr.{Instr}
 use Rattle.gu_syntax.proofs.Back.{list_back}
 use Rattle.gu_syntax.specs.Reading.{Read, got, ◌>>=◌, until_at, body_of}
 use Rattle.gu_read_code.proofs.Opening.{fails_bind}
-use Rattle.gu_read_code.proofs.bodies.expression.Goals as goal
+use Rattle.gu_read_code.proofs.bodies.expression_on.Goals as goal
 
 pub returns-in_err-branch-clause-value : goal.returns-in_err-branch-clause-value
 returns-in_err-branch-clause-value c =
