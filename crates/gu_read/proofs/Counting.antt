@@ -1,12 +1,12 @@
 -- Numbers of types and functions, against the limits on them.
-use Rattle.std.proofs.Common.{ℕ, ◌+◌, ◌≤◌, ◌<◌, ◌≡◌, refl, ap, ◌∙◌, sym, cond, not, if◌then◌else◌, nat_lt, length, get_or, map, arith, List, [], ◌∷◌, Bool, true, false, Some, None}
+use Rattle.std.proofs.Common.{ℕ, ◌+◌, ◌*◌, ◌≤◌, ◌<◌, ◌≡◌, refl, ap, ◌∙◌, sym, cond, not, if◌then◌else◌, nat_lt, length, get_or, map, arith, List, [], ◌∷◌, Bool, true, false, Some, None}
 use Rattle.std.specs.Prelude.{sum_by}
 use Rattle.std.specs.List.{prefix_len, position_or_len}
 use Rattle.std.proofs.lemmas.List.{length-map}
 use Rattle.std.proofs.lemmas.List.Sums.{sum_by-cons, position_or_len_is}
 use Rattle.gu_syntax.specs.declared.module.Func.{Func}
 use Rattle.gu_read.specs.Limits.{first_above, locals_of}
-use Rattle.gu_read.specs.Rows.{capped}
+use Rattle.gu_read.specs.Rows.{capped, weight}
 use Rattle.gu_read.proofs.Answered.{first_of, within, is_above, none_within, first_within, above_true}
 
 -- the first number above a limit
@@ -77,3 +77,57 @@ capped_more n h = sym (ap (λ b. if b then 50001 else n) (above_true 50000 n h))
 
 pub capped_less : (n : ℕ) → n ≤ 50000 → n ≡ capped n
 capped_less n h = let e : nat_lt 50000 n ≡ false = grind (arith, h) in sym (capped_same n e)
+
+-- weights: where their sum is small no function has too many locals, and the sum is of the locals
+weight_above : (n : ℕ) → nat_lt 50000 n ≡ true → weight n ≡ 4000001
+weight_above n e = ap (λ b. if b then 4000001 else n) e
+
+weight_same : (n : ℕ) → nat_lt 50000 n ≡ false → weight n ≡ n
+weight_same n e = ap (λ b. if b then 4000001 else n) e
+
+pub capped_weight : (n : ℕ) → capped n ≤ 50000 → capped n ≡ weight n
+capped_weight n h = by_test (nat_lt 50000 n) refl
+  where
+    by_test : (b : Bool) → nat_lt 50000 n ≡ b → capped n ≡ weight n
+    by_test true e = absurd (let c : capped n ≡ 50001 = ap (λ b. if b then 50001 else n) e in omega (arith, h, c))
+    by_test false e = capped_same n e ∙ sym (weight_same n e)
+
+pub weight_most : (n : ℕ) → 50000 < capped n → 4000001 ≡ weight n
+weight_most n h = by_test (nat_lt 50000 n) refl
+  where
+    by_test : (b : Bool) → nat_lt 50000 n ≡ b → 4000001 ≡ weight n
+    by_test true e = sym (weight_above n e)
+    by_test false e = absurd (let k : n ≤ 50000 = grind (arith, e) in let c = capped_same n e in omega (arith, h, k, c))
+
+weight_small : (n : ℕ) → weight n ≤ 4000001
+weight_small n = by_test (nat_lt 50000 n) refl
+  where
+    by_test : (b : Bool) → nat_lt 50000 n ≡ b → (if b then 4000001 else n) ≤ 4000001
+    by_test true e = omega arith
+    by_test false e = grind (arith, e)
+
+pub weights_fit : (funcs : List Func) → sum_by (λ f. weight (locals_of f)) funcs ≤ 4000001 * length funcs
+weights_fit [] = omega arith
+weights_fit (f ∷ fs) =
+    let e = sum_by-cons (λ (g : Func). weight (locals_of g)) f fs in
+    omega (arith, e, weight_small (locals_of f), weights_fit fs)
+
+abbrev IsLight : List Func → Type 0
+IsLight funcs = (within funcs ≡ length funcs) × (sum_by (λ f. weight (locals_of f)) funcs ≡ sum_by locals_of funcs)
+
+light_on : (f : Func) (fs : List Func) (b : Bool) → is_above f ≡ b → sum_by (λ g. weight (locals_of g)) (f ∷ fs) ≤ 4000000 → sum_by (λ g. weight (locals_of g)) (f ∷ fs) ≡ weight (locals_of f) + sum_by (λ g. weight (locals_of g)) fs → (sum_by (λ g. weight (locals_of g)) fs ≤ 4000000 → IsLight fs) → IsLight (f ∷ fs)
+light_on f fs true e h whole on = let w = weight_above (locals_of f) e in absurd (omega (arith, h, whole, w))
+light_on f fs false e h whole on =
+    let rest = on (omega (arith, h, whole)) in
+    let more : 1 + within fs ≡ length (f ∷ fs) = omega (arith, rest.0) in
+    (ap (λ b. cond (not b) (1 + within fs) 0) e ∙ more, whole ∙ ap (λ n. n + sum_by (λ g. weight (locals_of g)) fs) (weight_same (locals_of f) e) ∙ ap (λ n. locals_of f + n) rest.1 ∙ sym (sum_by-cons locals_of f fs))
+
+light : (funcs : List Func) → sum_by (λ f. weight (locals_of f)) funcs ≤ 4000000 → IsLight funcs
+light [] h = (refl, refl)
+light (f ∷ fs) h = light_on f fs (is_above f) refl h (sum_by-cons (λ g. weight (locals_of g)) f fs) (light fs)
+
+pub light_none : (funcs : List Func) → sum_by (λ f. weight (locals_of f)) funcs ≤ 4000000 → first_above locals_of 50000 funcs ≡ None
+light_none funcs h = ap (λ n. first_of n (length funcs)) (light funcs h).0 ∙ ap (λ b. if b then Some (length funcs) else None) (not_self (length funcs))
+
+pub light_sum : (funcs : List Func) → sum_by (λ f. weight (locals_of f)) funcs ≤ 4000000 → sum_by (λ f. weight (locals_of f)) funcs ≡ sum_by locals_of funcs
+light_sum funcs h = (light funcs h).1

@@ -11,6 +11,10 @@ use Rattle.gu_read.specs.Limits.{if_above, first_above, params_of, results_of, f
 abbrev pub capped : ℕ → ℕ
 capped n = if nat_lt 50000 n then 50001 else n
 
+-- a number of locals, or more than all functions may have where it is above the limit
+abbrev pub weight : ℕ → ℕ
+weight n = if nat_lt 50000 n then 4000001 else n
+
 abbrev pub first_rows : (types : ℕ) → Module → List (Which × Option ℕ)
 first_rows types m = (W.Types, if_above 1000000 types) ∷ (W.Funcs, if_above 1000000 (funcs_in m)) ∷ (W.Globals, if_above 1000000 (globals_in m)) ∷ []
 

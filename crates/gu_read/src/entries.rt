@@ -17,8 +17,13 @@ use rayon::prelude::*;
 use std::alloc::{AllocError, Global};
 use std::thread::Threads;
 
-/// How many bytes of entries make a batch, at least, but for the last one.
-const BATCH: usize = 65536;
+/// How many bytes of entries make a batch, at least, but for the last one: so few that what small
+/// functions of as many bytes take has room in `ROOM` for the most part.
+const BATCH: usize = 12_288;
+
+/// How many bytes of memory are asked for before a batch is read. The C library takes a block of this
+/// size from the memory that small blocks are taken from.
+const ROOM: usize = 114_688;
 
 /// The entries of these types, one behind another, at the front of the bytes.
 pub fn read_entries<'a>(
@@ -146,12 +151,21 @@ fn read_batches(
         .collect::<Vec<Result<List<Func>, Stop>>>(rt, alloc)
 }
 
-/// The functions of a batch.
+/// The functions of a batch. If room were not made at once, a thread would ask the system for each page
+/// that they take, where threads wait for each other.
 fn read_batch(alloc: Global, batch: &Batch<'_>) -> Result<List<Func>, Stop>
     ensures { GivesFront AllStandFor result (entries_at 1000 batch.now.tys.now batch.now.bytes.now) }
 {
+    make_room(alloc);
     let (funcs, _) = read_run(alloc, batch.tys, batch.bytes)?;
     Ok(funcs)
+}
+
+/// Asks for some memory and gives it back, so that what is asked for next is there. Where it is not to
+/// be had, nothing is different.
+fn make_room(alloc: Global) {
+    let room: Result<Vec<u8>, AllocError> = Vec::with_capacity(alloc, ROOM);
+    drop(room);
 }
 
 /// The functions of pieces, one behind another, or the failure of the first piece that has one. Room

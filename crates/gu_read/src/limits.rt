@@ -1,16 +1,18 @@
 //! The limits on the parts of a module, in their order.
-ghost use Rattle.std.specs.Prelude.{◌≡◌, ◌<◌, ◌≤◌, [], ◌∷◌, ℕ, map, length, count_by, IfOk, None};
+ghost use Rattle.std.specs.Prelude.{◌≡◌, ◌<◌, ◌≤◌, [], ◌∷◌, ℕ, map, length, count_by, sum_by, IfOk, None};
 ghost use Rattle.std.specs.List.{range_with_len};
 ghost use Rattle.gu_types.specs.Depth.{types_in, depth};
 ghost use Rattle.gu_read.specs.Limits.{params_of, results_of, fields_of, is_func, is_global, funcs_in, globals_in};
 ghost use Rattle.gu_read.specs.Limits.{locals_of, first_above, exceeded};
-ghost use Rattle.gu_read.specs.Rows.{capped, first_rows, type_rows, local_rows, depth_rows};
+ghost use Rattle.gu_read.specs.Rows.{capped, weight, first_rows, type_rows, local_rows, depth_rows};
 ghost use Rattle.gu_read.specs.Limits as L;
 
 use gu_read_parts::Which;
 use gu_syntax::{Desc, Func, Import, Module};
 use gu_types::{Comp, RecGroup, SubType};
+use rayon::prelude::*;
 use std::alloc::{AllocError, Global};
+use std::thread::Threads;
 
 /// A limit that is exceeded, and what is answered with it.
 type Exceeded = Option<(Which, u64)>;
@@ -18,7 +20,11 @@ type Exceeded = Option<(Which, u64)>;
 /// The first limit on its parts that a module exceeds, and what is answered with it: the count, or the
 /// index of the first type or defined function that exceeds it. `AllocError` only where memory is
 /// refused.
-pub fn first_exceeded(alloc: Global, module: &Module) -> Result<Exceeded, AllocError>
+pub fn first_exceeded(
+    rt: &(impl Threads + Sync),
+    alloc: Global,
+    module: &Module,
+) -> Result<Exceeded, AllocError>
     ensures { IfOk result (λ found. found ≡ exceeded «module».now) }
 {
     let flat = types_in_order(alloc, module.types.groups.as_slice())?;
@@ -29,7 +35,7 @@ pub fn first_exceeded(alloc: Global, module: &Module) -> Result<Exceeded, AllocE
     if let Some(found) = type_limit(alloc, types)? {
         return Ok(Some(found));
     }
-    if let Some(found) = local_limit(alloc, module.funcs.as_slice())? {
+    if let Some(found) = weighed_limit(rt, alloc, module.funcs.as_slice())? {
         return Ok(Some(found));
     }
     depth_limit(alloc, types)
@@ -144,6 +150,22 @@ fn sizes(comp: &Comp) -> (usize, usize, usize)
     }
 }
 
+/// The limits on the locals of a function and of all. They are looked at one by one only where one is
+/// exceeded.
+fn weighed_limit(
+    rt: &(impl Threads + Sync),
+    alloc: Global,
+    funcs: &[Func],
+) -> Result<Exceeded, AllocError>
+    requires { length funcs.now ≤ 1000000 }
+    ensures { IfOk result (λ found. found ≡ L.first_exceeded (local_rows funcs.now)) }
+{
+    if weigh_all(rt, funcs) <= 4_000_000 {
+        return Ok(None);
+    }
+    local_limit(alloc, funcs)
+}
+
 /// The limits on the locals of a function and of all.
 fn local_limit(alloc: Global, funcs: &[Func]) -> Result<Exceeded, AllocError>
     requires { length funcs.now ≤ 1000000 }
@@ -163,6 +185,32 @@ fn local_limit(alloc: Global, funcs: &[Func]) -> Result<Exceeded, AllocError>
         return Ok(Some((Which::ModuleLocals, total as u64)));
     }
     Ok(None)
+}
+
+/// The weights of all functions, added up in parallel.
+fn weigh_all(rt: &(impl Threads + Sync), funcs: &[Func]) -> u64
+    requires { length funcs.now ≤ 1000000 }
+    ensures { result ≡ sum_by (λ func. weight (locals_of func)) funcs.now }
+{
+    funcs
+        .par_iter()
+        .map(
+            |func: &Func| -> u64
+                ensures { result ≡ weight (locals_of func.now) }
+            { weigh(func) },
+        )
+        .sum::<u64>(rt)
+}
+
+/// How many locals a function has, or more than all functions may have where it has too many.
+fn weigh(func: &Func) -> u64
+    ensures { result ≡ weight (locals_of func.now) }
+{
+    let count = locals_up_to(func);
+    if 50_000 < count {
+        return 4_000_001;
+    }
+    count as u64
 }
 
 /// The locals of a function, or 50,001 where there are more.

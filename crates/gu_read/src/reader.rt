@@ -46,7 +46,7 @@ pub fn read_module(
         Ok(module) => module,
         Err(stop) => return Err(refusal(bytes, stop)),
     };
-    let Ok(found) = first_exceeded(alloc, &module) else {
+    let Ok(found) = first_exceeded(rt, alloc, &module) else {
         return Err(ReadErr::NoMemory);
     };
     match found {
