@@ -9,9 +9,9 @@ ghost use Rattle.gu_read.specs.Standing.{StandsFor, AllStandFor, GivesBy, GivesF
 ghost use Rattle.gu_read.specs.Batches.{EndsAt, Follow, Joins};
 
 use crate::batches::Batch;
-use gu_read_code::{Entry, code_entry};
+use gu_read_code::{Entry, code_entry_on};
 use gu_read_parts::{Stop, read_content};
-use gu_syntax::{Body, Func};
+use gu_syntax::{Body, Func, Instr};
 use gu_types::{List, ValType};
 use rayon::prelude::*;
 use std::alloc::{AllocError, Global};
@@ -44,15 +44,17 @@ pub fn read_entries<'a>(
     Ok((funcs, rest))
 }
 
-/// The entries of these types, one behind another, read one by one.
+/// The entries of these types, one behind another, read one by one. What one leaves of the room that
+/// its instructions lay in before their blocks ended, the next one takes.
 fn read_run<'a>(alloc: Global, tys: &[u32], bytes: &'a [u8]) -> Result<(List<Func>, &'a [u8]), Stop>
     ensures value { GivesBy AllStandFor result (entries_at 1000 tys.now bytes.now) }
     ensures inside { left_of result ≤ length bytes.now }
 {
     let mut funcs = no_funcs(alloc, tys.len())?;
+    let mut pending = Vec::new(alloc);
     let mut rest = bytes;
     'entries: for ty in tys {
-        let (func, behind) = read_func(alloc, *ty, rest)?;
+        let (func, behind) = read_func(alloc, *ty, &mut pending, rest)?;
         funcs.push(func)?;
         rest = behind;
     }
@@ -68,11 +70,16 @@ fn no_funcs(alloc: Global, room: usize) -> Result<List<Func>, AllocError>
 
 /// The function of a type at the front of the bytes. Where its locals are more than the tree can hold
 /// another stands for it, whose locals exceed the limit as well.
-fn read_func(alloc: Global, ty: u32, bytes: &[u8]) -> Result<(Func, &[u8]), Stop>
+fn read_func<'a>(
+    alloc: Global,
+    ty: u32,
+    pending: &mut Vec<Instr>,
+    bytes: &'a [u8],
+) -> Result<(Func, &'a [u8]), Stop>
     ensures value { GivesBy StandsFor result (func_at 1000 ty bytes.now) }
     ensures inside { left_of result ≤ length bytes.now }
 {
-    let (entry, rest) = code_entry(alloc, bytes)?;
+    let (entry, rest) = code_entry_on(alloc, pending, bytes)?;
     match entry {
         Entry::Whole { locals, body } => Ok((Func { ty, locals, body }, rest)),
         Entry::TooMany => {
