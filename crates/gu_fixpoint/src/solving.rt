@@ -58,8 +58,9 @@ fn together<N: Ceilings + Send + Sync, G: Gate>(
 
 /// The least solution of a system, with one content for each cell, for every number of workers and
 /// every gate. One worker is the worklist, and leaves no track. More raise shared cells at once, on
-/// threads of their own; then the track tells what each of them did, and no pass follows them.
-/// `AllocError` only where memory is refused.
+/// threads of their own (one with no root in its share has nothing to do, and needs no thread); then
+/// the track tells what each of them did, and no pass follows them. `AllocError` only where memory
+/// is refused.
 pub fn solve<G: Gate>(
     rt: &(impl Threads + Sync),
     alloc: Global,
