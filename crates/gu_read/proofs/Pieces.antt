@@ -12,7 +12,7 @@ use Rattle.gu_read_parts.specs.declared.stop.Stop.TheVariants as S
 use Rattle.gu_read_parts.specs.Gives.{Fails, left_at}
 use Rattle.gu_read_parts.proofs.Vectors.{behind}
 use Rattle.gu_read.specs.declared.batches.Batch.{Batch}
-use Rattle.gu_read.specs.Standing.{StandsFor, AllStandFor, GivesFront}
+use Rattle.gu_read.specs.Standing.{StandsFor, AllStandFor}
 use Rattle.gu_read.specs.Batches.{EndsAt, Follow, behind_piece, joined_piece, joined, ReadsBatch, Answers, Joins, JoinsBehind, JoinsRead, JoinsAll}
 use Rattle.gu_read.proofs.Runs.{zip_append}
 use Rattle.gu_read.proofs.Ends.{entries_append}

@@ -1,5 +1,3 @@
-use Rattle.std.proofs.Common.{ap, sym, ◌∙◌, subst}
-use Rattle.std.proofs.lemmas.List.{take_all}
 use Rattle.std.specs.Slice.Iter.{chunks_rest}
 use Rattle.gu_read.proofs.Pieces.{rounds_begin, rounds_on, rounds_end, no_items}
 use Rattle.gu_read.proofs.entries.read_rounds.Goals as goal
