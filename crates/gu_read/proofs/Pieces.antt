@@ -12,8 +12,8 @@ use Rattle.gu_read_parts.specs.declared.stop.Stop.TheVariants as S
 use Rattle.gu_read_parts.specs.Gives.{Fails, left_at}
 use Rattle.gu_read_parts.proofs.Vectors.{behind}
 use Rattle.gu_read.specs.declared.batches.Batch.{Batch}
-use Rattle.gu_read.specs.Standing.{StandsFor, AllStandFor, GivesFront}
-use Rattle.gu_read.specs.Batches.{EndsAt, Follow, behind_piece, joined_piece, joined, Joins}
+use Rattle.gu_read.specs.Standing.{StandsFor, AllStandFor}
+use Rattle.gu_read.specs.Batches.{EndsAt, Follow, behind_piece, joined_piece, joined, ReadsBatch, Answers, Joins, JoinsBehind, JoinsRead, JoinsAll}
 use Rattle.gu_read.proofs.Runs.{zip_append}
 use Rattle.gu_read.proofs.Ends.{entries_append}
 
@@ -21,9 +21,6 @@ use Rattle.gu_read.proofs.Ends.{entries_append}
 pub follow_on : (batches : List Batch) (batch : Batch) (tys text others rest more next : List ℕ) → Follow batches tys text others rest → others ≡ batch.tys.now ++ more → batch.bytes.now ≡ rest → EndsAt batch.tys.now rest next → Follow (batches ++ batch ∷ []) tys text more next
 follow_on [] batch tys text others rest more next h split there ends = (more, next, h.0 ∙ split, there ∙ sym h.1, subst (λ t. EndsAt batch.tys.now t next) (sym h.1) ends, (refl, refl))
 follow_on (first ∷ batches) batch tys text others rest more next h split there ends = (h.0, h.1, h.2, h.3, h.4, follow_on batches batch h.0 h.1 others rest more next h.5 split there ends)
-
-abbrev pub ReadsBatch : Batch → Result (List Func) Stop → Type 0
-ReadsBatch batch piece = GivesFront AllStandFor piece (entries_at 1000 batch.tys.now batch.bytes.now)
 
 abbrev Reads : List Func → Read (List Func) → List ℕ → Type 0
 Reads held read rest = (funcs : List Func) × AllStandFor held funcs × (read ≡ got funcs rest)
@@ -70,8 +67,8 @@ more_behind : (all more : List Func) (r : Result (List Func) Stop) → behind_pi
 more_behind all more (Ok funcs) = ap (λ fs. Ok fs) (sym (append_assoc all more funcs))
 more_behind all more (Err stop) = refl
 
-pub joining_begins : (pieces left : List (Result (List Func) Stop)) → left ≡ pieces → Joining (joined pieces) [] left
-joining_begins pieces left e = record { so_far = none_behind (joined left) ∙ ap joined e }
+pub joining_begins : (all : List Func) (pieces left : List (Result (List Func) Stop)) → left ≡ pieces → Joining (behind_piece all (joined pieces)) all left
+joining_begins all pieces left e = record { so_far = ap (λ l. behind_piece all (joined l)) e }
 
 pub joining_on : (full : Result (List Func) Stop) (all more new : List Func) (piece : Result (List Func) Stop) (left others : List (Result (List Func) Stop)) → Joining full all left → left ≡ piece ∷ others → piece ≡ Ok more → new ≡ all ++ more → Joining full new others
 joining_on full all more new piece left others h e ok grown = record { so_far = ap (λ fs. behind_piece fs (joined others)) grown ∙ sym (more_behind all more (joined others)) ∙ ap (λ p. behind_piece all (joined_piece p (joined others))) (sym ok) ∙ ap (λ l. behind_piece all (joined l)) (sym e) ∙ h.so_far }
@@ -79,12 +76,65 @@ joining_on full all more new piece left others h e ok grown = record { so_far = 
 pub joining_ends : (full : Result (List Func) Stop) (all : List Func) (left : List (Result (List Func) Stop)) → Joining full all left → left ≡ [] → full ≡ Ok all
 joining_ends full all left h e = sym h.so_far ∙ ap (λ l. behind_piece all (joined l)) e ∙ ap (λ fs. Ok fs) (append-nil all)
 
-fails_joins : (pieces : List (Result (List Func) Stop)) (stop : Stop) → joined pieces ≡ Err stop → Joins pieces (Err stop)
-fails_joins pieces S.NoMemory h = tt
-fails_joins pieces (S.Refused asked left) h = h
+answers_ok : (full : Result (List Func) Stop) (funcs : List Func) → full ≡ Ok funcs → Answers full (Ok funcs)
+answers_ok full funcs h = h
 
-pub joining_fails : (pieces : List (Result (List Func) Stop)) (all : List Func) (stop : Stop) (piece : Result (List Func) Stop) (left others : List (Result (List Func) Stop)) → Joining (joined pieces) all left → left ≡ piece ∷ others → piece ≡ Err stop → Joins pieces (Err stop)
-joining_fails pieces all stop piece left others h e fails = fails_joins pieces stop (sym h.so_far ∙ ap (λ l. behind_piece all (joined l)) e ∙ ap (λ p. behind_piece all (joined_piece p (joined others))) fails)
+answers_err : (full : Result (List Func) Stop) (stop : Stop) → full ≡ Err stop → Answers full (Err stop)
+answers_err full S.NoMemory h = tt
+answers_err full (S.Refused asked left) h = h
+
+pub joining_fails : (full : Result (List Func) Stop) (all : List Func) (stop : Stop) (piece : Result (List Func) Stop) (left others : List (Result (List Func) Stop)) → Joining full all left → left ≡ piece ∷ others → piece ≡ Err stop → Answers full (Err stop)
+joining_fails full all stop piece left others h e fails = answers_err full stop (sym h.so_far ∙ ap (λ l. behind_piece all (joined l)) e ∙ ap (λ p. behind_piece all (joined_piece p (joined others))) fails)
+
+-- pieces behind pieces
+joined_behind : (all : List Func) (others pieces : Result (List Func) Stop) → joined_piece (behind_piece all others) pieces ≡ behind_piece all (joined_piece others pieces)
+joined_behind all (Ok funcs) pieces = sym (more_behind all funcs pieces)
+joined_behind all (Err stop) pieces = refl
+
+joined_first : (piece others pieces : Result (List Func) Stop) → joined_piece (joined_piece piece others) pieces ≡ joined_piece piece (joined_piece others pieces)
+joined_first (Ok funcs) others pieces = joined_behind funcs others pieces
+joined_first (Err stop) others pieces = refl
+
+joined_append : (before pieces : List (Result (List Func) Stop)) → joined (before ++ pieces) ≡ joined_piece (joined before) (joined pieces)
+joined_append [] pieces = sym (none_behind (joined pieces))
+joined_append (piece ∷ before) pieces = ap (joined_piece piece) (joined_append before pieces) ∙ sym (joined_first piece (joined before) (joined pieces))
+
+pub joins_behind : (held : List Func) (pieces : List (Result (List Func) Stop)) (result : Result (List Func) Stop) → Answers (behind_piece held (joined pieces)) result → JoinsBehind (Ok held) pieces result
+joins_behind held pieces result h before joins = subst (λ f. Answers f result) (sym (joined_append before pieces ∙ ap (λ r. joined_piece r (joined pieces)) joins)) h
+
+pub fails_behind_all : (stop : Stop) (pieces : List (Result (List Func) Stop)) → JoinsBehind (Err stop) pieces (Err stop)
+fails_behind_all S.NoMemory pieces before joins = tt
+fails_behind_all (S.Refused asked left) pieces before joins = joined_append before pieces ∙ ap (λ r. joined_piece r (joined pieces)) joins
+
+-- rounds of batches: the pieces of those that were read are joined, but for those of the last round
+pub record Rounds (batches : List Batch) (all : Result (List Func) Stop) (pieces : List (Result (List Func) Stop)) (left : List Batch) : Type 0 where
+  pub done : List Batch
+  pub before : List (Result (List Func) Stop)
+  pub whole : done ++ left ≡ batches
+  pub zip : AllZip ReadsBatch done (before ++ pieces)
+  pub joins : Joins before all
+
+pub rounds_begin : (batches : List Batch) → Rounds batches (Ok []) [] batches
+rounds_begin batches = record { done = []; before = []; whole = refl; zip = tt; joins = refl }
+
+pub rounds_on : (batches : List Batch) (all joined : Result (List Func) Stop) (pieces next : List (Result (List Func) Stop)) (left these others : List Batch) → Rounds batches all pieces left → left ≡ these ++ others → JoinsBehind all pieces joined → AllZip ReadsBatch these next → Rounds batches joined next others
+rounds_on batches all joined pieces next left these others h split behind reads = record {
+  done = h.done ++ these;
+  before = h.before ++ pieces;
+  whole = append_assoc h.done these others ∙ ap (λ l. h.done ++ l) (sym split) ∙ h.whole;
+  zip = zip_append ReadsBatch h.done these (h.before ++ pieces) next h.zip reads;
+  joins = behind h.before h.joins;
+}
+
+all_joined : (batches : List Batch) (result : Result (List Func) Stop) → JoinsRead batches result → JoinsAll batches result
+all_joined batches (Ok funcs) h = h
+all_joined batches (Err S.NoMemory) h = tt
+all_joined batches (Err (S.Refused asked left)) h = h
+
+pub rounds_end : (batches : List Batch) (all : Result (List Func) Stop) (pieces : List (Result (List Func) Stop)) (left : List Batch) (result : Result (List Func) Stop) → Rounds batches all pieces left → left ≡ [] → JoinsBehind all pieces result → JoinsAll batches result
+rounds_end batches all pieces left result h none behind =
+    let same : h.done ≡ batches = sym (append-nil h.done) ∙ ap (λ l. h.done ++ l) (sym none) ∙ h.whole in
+    all_joined batches result (h.before ++ pieces, subst (λ bs. AllZip ReadsBatch bs (h.before ++ pieces)) same h.zip, behind h.before h.joins)
 
 -- what is joined is what the entries are read as
 joins_gives : (pieces : List (Result (List Func) Stop)) (result : Result (List Func) Stop) (read : Read (List Func)) (rest : List ℕ) → Joins pieces result → Gives (joined pieces) read rest → Gives result read rest
@@ -92,8 +142,13 @@ joins_gives pieces (Ok funcs) read rest joins h = subst (λ r. Gives r read rest
 joins_gives pieces (Err S.NoMemory) read rest joins h = tt
 joins_gives pieces (Err (S.Refused asked left)) read rest joins h = subst (λ r. Gives r read rest) joins h
 
-pub joined_gives : (batches : List Batch) (pieces : List (Result (List Func) Stop)) (result : Result (List Func) Stop) (tys text rest : List ℕ) → Follow batches tys text [] rest → AllZip ReadsBatch batches pieces → Joins pieces result → Gives result (entries_at 1000 tys text) rest
-joined_gives batches pieces result tys text rest follow zip joins = joins_gives pieces result (entries_at 1000 tys text) rest joins (batches_joined batches pieces tys text rest follow zip)
+read_gives : (batches : List Batch) (result : Result (List Func) Stop) (tys text rest : List ℕ) → Follow batches tys text [] rest → JoinsRead batches result → Gives result (entries_at 1000 tys text) rest
+read_gives batches result tys text rest follow h = joins_gives h.0 result (entries_at 1000 tys text) rest h.2 (batches_joined batches h.0 tys text rest follow h.1)
+
+pub joined_gives : (batches : List Batch) (result : Result (List Func) Stop) (tys text rest : List ℕ) → Follow batches tys text [] rest → JoinsAll batches result → Gives result (entries_at 1000 tys text) rest
+joined_gives batches (Ok funcs) tys text rest follow h = read_gives batches (Ok funcs) tys text rest follow h
+joined_gives batches (Err S.NoMemory) tys text rest follow h = tt
+joined_gives batches (Err (S.Refused asked left)) tys text rest follow h = read_gives batches (Err (S.Refused asked left)) tys text rest follow h
 
 -- reading entries stops within the text
 func_reads : (ty : ℕ) → Decodes 0 (FuncOf ty) (func_at 1000 ty)

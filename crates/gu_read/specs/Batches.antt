@@ -2,9 +2,11 @@
 use Rattle.std.specs.Prelude.{ℕ, ◌≡◌, List, [], ◌∷◌, ◌++◌, Result, Ok, Err}
 use Rattle.gu_syntax.specs.declared.module.Func.{Func}
 use Rattle.gu_syntax.specs.Reading.{got, entries_at}
+use Rattle.std.specs.List.{AllZip}
 use Rattle.gu_read_parts.specs.declared.stop.Stop.{Stop}
 use Rattle.gu_read_parts.specs.declared.stop.Stop.TheVariants as S
 use Rattle.gu_read.specs.declared.batches.Batch.{Batch}
+use Rattle.gu_read.specs.Standing.{AllStandFor, GivesFront}
 
 -- where entries of these types are read at the front of the text, they end where the text goes on like this
 pub record EndsAt (tys text rest : List ℕ) : Type 0 where
@@ -28,8 +30,32 @@ abbrev pub joined : List (Result (List Func) Stop) → Result (List Func) Stop
 joined [] = Ok []
 joined (piece ∷ pieces) = joined_piece piece (joined pieces)
 
--- the pieces are joined, or there is no memory for it
+-- this is what is answered, or there is no memory for it
+abbrev pub Answers : (full result : Result (List Func) Stop) → Type 0
+Answers full (Ok funcs) = full ≡ Ok funcs
+Answers full (Err S.NoMemory) = Unit {0}
+Answers full (Err (S.Refused asked left)) = full ≡ Err (S.Refused asked left)
+
+-- the pieces are joined
 abbrev pub Joins : List (Result (List Func) Stop) → Result (List Func) Stop → Type 0
-Joins pieces (Ok funcs) = joined pieces ≡ Ok funcs
-Joins pieces (Err S.NoMemory) = Unit {0}
-Joins pieces (Err (S.Refused asked left)) = joined pieces ≡ Err (S.Refused asked left)
+Joins pieces result = Answers (joined pieces) result
+
+-- these pieces are joined to those before them, whichever those are
+abbrev pub JoinsBehind : Result (List Func) Stop → List (Result (List Func) Stop) → Result (List Func) Stop → Type 0
+JoinsBehind all pieces result = (before : List (Result (List Func) Stop)) → Joins before all → Joins (before ++ pieces) result
+
+-- a piece for each batch has what the grammar reads in it
+abbrev pub ReadsBatch : Batch → Result (List Func) Stop → Type 0
+ReadsBatch batch piece = GivesFront AllStandFor piece (entries_at 1000 batch.tys.now batch.bytes.now)
+
+abbrev pub ReadsEach : List Batch → List (Result (List Func) Stop) → Type 0
+ReadsEach batches pieces = AllZip ReadsBatch batches pieces
+
+-- what the grammar reads in each batch is joined, or there is no memory for it
+abbrev pub JoinsRead : List Batch → Result (List Func) Stop → Type 0
+JoinsRead batches result = (pieces : List (Result (List Func) Stop)) × ReadsEach batches pieces × Joins pieces result
+
+abbrev pub JoinsAll : List Batch → Result (List Func) Stop → Type 0
+JoinsAll batches (Ok funcs) = JoinsRead batches (Ok funcs)
+JoinsAll batches (Err S.NoMemory) = Unit {0}
+JoinsAll batches (Err (S.Refused asked left)) = JoinsRead batches (Err (S.Refused asked left))

@@ -1,12 +1,13 @@
 //! The entries of the code section, read in parallel (core specification 3.0, 5.5.13 Code Section).
 //! They are found by their sizes first, in batches of about equal bytes, so that many small ones are
-//! not a task each. The first failure in order is answered.
+//! not a task each. Batches are read in rounds, and while a round is read the functions of the round
+//! before it are joined to those that stand before them. The first failure in order is answered.
 ghost use Rattle.std.specs.Prelude.{◌≡◌, ◌+◌, ◌<◌, ◌≤◌, [], take, length, IfOk};
-ghost use Rattle.std.specs.List.{AllZip};
+ghost use Rattle.std.specs.Thread.{IsSync};
 ghost use Rattle.gu_syntax.specs.Reading.{func_at, entries_at};
 ghost use Rattle.gu_read_parts.specs.Gives.{left_of, left_at};
-ghost use Rattle.gu_read.specs.Standing.{StandsFor, AllStandFor, GivesBy, GivesFront};
-ghost use Rattle.gu_read.specs.Batches.{EndsAt, Follow, Joins};
+ghost use Rattle.gu_read.specs.Standing.{StandsFor, AllStandFor, GivesBy};
+ghost use Rattle.gu_read.specs.Batches.{EndsAt, Follow, ReadsBatch, ReadsEach, JoinsBehind, JoinsAll};
 
 use crate::batches::Batch;
 use gu_read_code::{Entry, code_entry_on};
@@ -15,11 +16,14 @@ use gu_syntax::{Body, Func, Instr};
 use gu_types::{List, ValType};
 use rayon::prelude::*;
 use std::alloc::{AllocError, Global};
-use std::thread::Threads;
+use std::thread::{Threads, join};
 
 /// How many bytes of entries make a batch, at least, but for the last one: so few that what small
 /// functions of as many bytes take has room in `ROOM` for the most part.
 const BATCH: usize = 12_288;
+
+/// How many batches make a round, at most.
+const ROUND: usize = 256;
 
 /// How many bytes of memory are asked for before a batch is read. The C library takes a block of this
 /// size from the memory that small blocks are taken from.
@@ -39,8 +43,7 @@ pub fn read_entries<'a>(
         return read_run(alloc, tys, bytes);
     }
     let (batches, rest) = find_batches(alloc, tys, bytes)?;
-    let pieces = read_batches(rt, alloc, batches.as_slice())?;
-    let funcs = join_pieces(alloc, tys.len(), pieces)?;
+    let funcs = read_rounds(rt, alloc, tys.len(), batches.as_slice())?;
     Ok((funcs, rest))
 }
 
@@ -139,20 +142,71 @@ fn pass_batch<'a>(tys: &[u32], bytes: &'a [u8]) -> (usize, &'a [u8])
     (tys.len(), rest)
 }
 
+/// The functions of all batches, or the failure of the first batch that has one. Room is made at once
+/// for as many functions as there are types.
+fn read_rounds(
+    rt: &(impl Threads + Sync),
+    alloc: Global,
+    types: usize,
+    batches: &[Batch<'_>],
+) -> Result<List<Func>, Stop>
+    ensures { JoinsAll batches.now result }
+{
+    let mut all: Result<List<Func>, Stop> = Ok(no_funcs(alloc, types)?);
+    let mut pieces: Vec<Result<List<Func>, Stop>> = Vec::new(alloc);
+    'rounds: for these in batches.chunks(ROUND) {
+        let (joined, read) = read_round(rt, alloc, all, pieces, these);
+        all = joined;
+        pieces = read?;
+    }
+    join_pieces(all, pieces)
+}
+
+/// Joins the pieces of the round before, and reads these batches at the same time. Where there are no
+/// pieces, no thread is started for them.
+fn read_round<R: Threads + Sync>(
+    rt: &R,
+    alloc: Global,
+    all: Result<List<Func>, Stop>,
+    pieces: Vec<Result<List<Func>, Stop>>,
+    batches: &[Batch<'_>],
+) -> (
+    Result<List<Func>, Stop>,
+    Result<Vec<Result<List<Func>, Stop>>, AllocError>,
+)
+    ensures joined { JoinsBehind all pieces.items result.0 }
+    ensures read { IfOk result.1 (λ v. ReadsEach batches.now v.items) }
+{
+    if pieces.is_empty() {
+        return (all, read_batches(rt, alloc, batches));
+    }
+    let read = || -> Result<Vec<Result<List<Func>, Stop>>, AllocError>
+        requires { IsSync R.row }
+        ensures { IfOk result (λ v. ReadsEach batches.entry.now v.items) }
+    { read_batches(rt, alloc, batches) };
+    join(
+        rt,
+        move || -> Result<List<Func>, Stop>
+            ensures { JoinsBehind all pieces.items result }
+        { join_pieces(all, pieces) },
+        read,
+    )
+}
+
 /// The functions of each batch.
 fn read_batches(
     rt: &(impl Threads + Sync),
     alloc: Global,
     batches: &[Batch<'_>],
 ) -> Result<Vec<Result<List<Func>, Stop>>, AllocError>
-    ensures { IfOk result (λ v. AllZip (λ b r. GivesFront AllStandFor r (entries_at 1000 b.tys.now b.bytes.now)) batches.now v.items) }
+    ensures { IfOk result (λ v. ReadsEach batches.now v.items) }
 {
     batches
         .par_iter()
         .with_min_len(1)
         .map(
             |batch: &Batch<'_>| -> Result<List<Func>, Stop>
-                ensures { GivesFront AllStandFor result (entries_at 1000 batch.now.tys.now batch.now.bytes.now) }
+                ensures { ReadsBatch batch.now result }
             { read_batch(alloc, batch) },
         )
         .collect::<Vec<Result<List<Func>, Stop>>>(rt, alloc)
@@ -161,7 +215,7 @@ fn read_batches(
 /// The functions of a batch. If room were not made at once, a thread would ask the system for each page
 /// that they take, where threads wait for each other.
 fn read_batch(alloc: Global, batch: &Batch<'_>) -> Result<List<Func>, Stop>
-    ensures { GivesFront AllStandFor result (entries_at 1000 batch.now.tys.now batch.now.bytes.now) }
+    ensures { ReadsBatch batch.now result }
 {
     make_room(alloc);
     let (funcs, _) = read_run(alloc, batch.tys, batch.bytes)?;
@@ -175,16 +229,15 @@ fn make_room(alloc: Global) {
     drop(room);
 }
 
-/// The functions of pieces, one behind another, or the failure of the first piece that has one. Room
-/// is made at once for as many as there are types.
+/// The functions that are joined already, if none failed, and those of pieces behind them, or the
+/// failure of the first piece that has one.
 fn join_pieces(
-    alloc: Global,
-    types: usize,
+    all: Result<List<Func>, Stop>,
     pieces: Vec<Result<List<Func>, Stop>>,
 ) -> Result<List<Func>, Stop>
-    ensures { Joins pieces.items result }
+    ensures { JoinsBehind all pieces.items result }
 {
-    let mut all = Vec::with_capacity(alloc, types)?;
+    let mut all = all?.into_vec();
     'pieces: for piece in pieces {
         let funcs = piece?;
         let mut more = funcs.into_vec();

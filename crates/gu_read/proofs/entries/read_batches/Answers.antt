@@ -1,7 +1,7 @@
 use Rattle.std.proofs.Common.{◌∙◌, ap}
 use Rattle.rayon.proofs.ListFacts.{IfOk-then}
 use Rattle.rayon.proofs.ToStd.{slice-AllZip}
-use Rattle.gu_read.proofs.Pieces.{ReadsBatch}
+use Rattle.gu_read.specs.Batches.{ReadsBatch}
 use Rattle.gu_read.proofs.entries.read_batches.Goals as goal
 
 pub returns : goal.returns
