@@ -33,6 +33,8 @@ SIZES = (1_000, 10_000, 100_000, 1_000_000)
 # How many joins all further turns ask for together, about, and how many runs the fastest is of.
 WORK = 1_000_000
 RUNS = 3
+# How many further turns are timed at least.
+LEAST = 4
 # The classes of the cone, and how many stand in a chain below the first one.
 CLASSES, CHAIN = 1_000, 63
 
@@ -47,7 +49,7 @@ def fastest(command):
 
 def seconds(program, words, kind, links, asked):
     """The seconds by the clock of one solution, which asks for so many joins."""
-    more = max(1, int(WORK / asked))
+    more = max(LEAST, int(WORK / asked))
     once = fastest([program, *words, "1", kind, str(links)])
     often = fastest([program, *words, str(1 + more), kind, str(links)])
     return max(often.clock - once.clock, 0) / more
