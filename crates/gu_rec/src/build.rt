@@ -44,13 +44,18 @@ fn entry_of(ty: &SubType, entries: &[Entry]) -> Entry
     }
 }
 
-/// What is kept of each type. `AllocError` only where memory is refused.
-pub(crate) fn entries_of(alloc: Global, list: &TypeList) -> Result<Vec<Entry>, AllocError>
+/// What is kept of each type, with room for so many from the start. `AllocError` only where memory
+/// is refused.
+pub(crate) fn entries_of(
+    alloc: Global,
+    list: &TypeList,
+    room: usize,
+) -> Result<Vec<Entry>, AllocError>
     requires hold { IndicesHold list.now }
     requires shallow { (i : ℕ) → depth (types_of list.now) i ≤ 63 }
     ensures { IfOk result (λ entries. EntriesAre (types_of list.now) entries.items) }
 {
-    let mut entries: Vec<Entry> = Vec::new(alloc);
+    let mut entries: Vec<Entry> = Vec::with_capacity(alloc, room)?;
     let groups = list.groups.as_slice();
     for group in groups {
         let types = group.types.as_slice();

@@ -15,11 +15,16 @@ pub struct Place {
     pub position: usize,
 }
 
-/// Where each type stands. `AllocError` only where memory is refused.
-pub(crate) fn places_of(alloc: Global, list: &TypeList) -> Result<Vec<Place>, AllocError>
+/// Where each type stands, with room for so many places from the start. `AllocError` only where
+/// memory is refused.
+pub(crate) fn places_of(
+    alloc: Global,
+    list: &TypeList,
+    room: usize,
+) -> Result<Vec<Place>, AllocError>
     ensures { IfOk result (λ places. PlacesAre list.now places.items) }
 {
-    let mut places: Vec<Place> = Vec::new(alloc);
+    let mut places: Vec<Place> = Vec::with_capacity(alloc, room)?;
     let groups = list.groups.as_slice();
     for group in 0..groups.len() {
         let types = groups[group].types.as_slice();

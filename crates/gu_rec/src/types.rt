@@ -28,11 +28,11 @@ pub(crate) struct Entry {
     pub(crate) depth: u32,
 }
 
-/// The types of a module, as `intern` made it of them. Contracts see the list of types. No call
-/// takes memory. Indices handed in are in range.
+/// The types of a module, as `intern` made it of them. It borrows their list, which contracts see.
+/// No call takes memory. Indices handed in are in range.
 #[derive(Drop)]
-pub struct Types {
-    list: TypeList,
+pub struct Types<'a> {
+    list: &'a TypeList,
     least: Vec<u32>,
     entries: Vec<Entry>,
     places: Vec<Place>,
@@ -40,34 +40,33 @@ pub struct Types {
     tops: Tops,
 }
 
-impl Model for Types {
+impl<'a> Model for Types<'a> {
     ghost use Rattle.gu_types.specs.declared.types.TypeList.{TypeList as Listed};
     ghost use Rattle.gu_rec.specs.Heights.{IsKept};
 
     ghost Value = { Listed };
 
-    ghost view = { λ types. types.list };
+    ghost view = { λ types. types.list.now };
 
-    ghost invariant = { λ types. IsKept types.list types.least.items types.entries.items types.places.items types.heights.items types.tops };
+    ghost invariant = { λ types. IsKept types.list.now types.least.items types.entries.items types.places.items types.heights.items types.tops };
 }
 
-impl Types {
+impl<'a> Types<'a> {
     /// The tables of a list of types whose indices hold. `AllocError` only where memory is
     /// refused.
-    pub(crate) fn make(alloc: Global, list: &TypeList) -> Result<Types, AllocError>
+    pub(crate) fn make(alloc: Global, list: &'a TypeList) -> Result<Types<'a>, AllocError>
         requires hold { IndicesHold list.now }
         requires few { length (types_of list.now) < 2 ^ 32 }
         requires shallow { (i : ℕ) → depths.depth (types_of list.now) i ≤ 63 }
         ensures { IfOk result (λ types. types ≡ list.now) }
     {
-        let copy = list.clone()?;
         let least = least_indices(alloc, list)?;
-        let entries = entries_of(alloc, list)?;
-        let places = places_of(alloc, list)?;
+        let entries = entries_of(alloc, list, least.len())?;
+        let places = places_of(alloc, list, least.len())?;
         let heights = type_heights(alloc, least.as_slice(), entries.as_slice())?;
         let tops = tops_of(entries.as_slice());
         Ok(Types {
-            list: copy,
+            list,
             least,
             entries,
             places,

@@ -1,10 +1,8 @@
 use Rattle.std.proofs.Common.{ℕ, sym, subst, List}
-use Rattle.gu_types.specs.declared.types.TypeList.{TypeList}
 use Rattle.gu_types.specs.Depth.{types_of}
 use Rattle.gu_rec.specs.declared.types.Entry.{Entry}
 use Rattle.gu_rec.specs.Table.{IsTable, EntriesAre}
-use Rattle.gu_rec.specs.Heights.{IsKept, HeightsAre}
-use Rattle.gu_rec.proofs.Keys.{lists_same}
+use Rattle.gu_rec.specs.Heights.{HeightsAre}
 use Rattle.gu_rec.proofs.Heights.{Shallow, entries_shallow}
 use Rattle.gu_rec.proofs.types.Types.make.Goals as goal
 
@@ -23,13 +21,9 @@ invariant_of-result c =
     let t : IsTable c.args.list.now c.in_ok-least.least.items c.in_ok-entries.entries.items = record { hold = c.requires.hold; few = c.requires.few; shallow = c.requires.shallow; least_are = c.in_ok-least.ensures; entries_are = c.in_ok-entries.ensures } in
     let u : IsTable c.args.list.now c.as_slice.result.now c.in_ok-entries.entries.items = subst (λ (l : List ℕ). IsTable c.args.list.now l c.in_ok-entries.entries.items) (sym c.as_slice.ensures.value) t in
     let v : IsTable c.args.list.now c.as_slice.result.now c.as_slice-2.result.now = subst (λ (e : List Entry). IsTable c.args.list.now c.as_slice.result.now e) (sym c.as_slice-2.ensures.value) u in
-    subst (λ (l : TypeList). IsKept l c.in_ok-least.least.items c.in_ok-entries.entries.items c.in_ok-places.places.items c.in_ok-heights.heights.items c.tops_of-tops.result) (sym (lists_same c.args.list.now c.in_ok-copy.copy c.in_ok-copy.ensures.cases))
-    (record {
+    record {
       table = t;
       places_are = c.in_ok-places.ensures;
       heights_are = subst (λ (l : List ℕ). HeightsAre c.args.list.now l c.in_ok-heights.heights.items) c.as_slice.ensures.value (c.in_ok-heights.ensures c.args.list.now v);
       tops_are = c.tops_of-tops.ensures c.args.list.now (subst (λ (e : List Entry). EntriesAre (types_of c.args.list.now) e) (sym c.as_slice-3.ensures.value) c.in_ok-entries.ensures);
-    })
-
-pub returns : goal.returns
-returns c = lists_same c.args.list.now c.in_ok-copy.copy c.in_ok-copy.ensures.cases
+    }
