@@ -23,9 +23,9 @@ pub struct GlobalFact {
 /// and each global, imported ones first. The indices in the types hold, and no type has more than
 /// 63 supertypes above it.
 #[derive(Drop)]
-pub struct Facts {
+pub struct Facts<'a> {
     /// The types.
-    pub types: Types,
+    pub types: Types<'a>,
     /// The index of each function's type.
     pub funcs: List<u32>,
     /// What is known of each global.
@@ -34,7 +34,7 @@ pub struct Facts {
     ghost shallow: { (i : ℕ) → depth (types_of types) i ≤ 63 },
 }
 
-impl Facts {
+impl Facts<'_> {
     ghost use Rattle.std.specs.Prelude.{◌≡◌, ◌<◌, length, IfSome};
     ghost use Rattle.gu_rec.specs.Sub.{IsHeapOf, IsNoBottom};
     ghost use Rattle.gu_contents.specs.Join as joins;

@@ -66,7 +66,7 @@ fn func_starts(alloc: Global, facts: &Facts, first: usize) -> Result<Starts, All
 #[derive(Drop)]
 pub struct Numbering<'a> {
     /// The facts.
-    pub facts: &'a Facts,
+    pub facts: &'a Facts<'a>,
     slots: Vec<usize>,
     funcs: Vec<usize>,
     own: usize,
@@ -80,7 +80,7 @@ pub struct Numbering<'a> {
 impl<'a> Numbering<'a> {
     /// The numbers of the cells of facts. `AllocError` where memory is refused, or where there are
     /// more cells than a `usize` counts.
-    pub fn new(alloc: Global, facts: &'a Facts) -> Result<Numbering<'a>, AllocError>
+    pub fn new(alloc: Global, facts: &'a Facts<'a>) -> Result<Numbering<'a>, AllocError>
         ensures { IfOk result (λ numbering. numbering.facts.now ≡ facts.now) }
     {
         let slots = slot_starts(alloc, facts)?;

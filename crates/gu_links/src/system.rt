@@ -30,7 +30,7 @@ pub struct System<'a> {
     /// How many cells there are.
     pub cells: usize,
     /// What is known of the module.
-    pub facts: &'a Facts,
+    pub facts: &'a Facts<'a>,
     /// The 64-bit literals.
     pub longs: Longs,
     pub(crate) index: Index,
@@ -52,7 +52,7 @@ impl<'a> System<'a> {
         alloc: Global,
         links: List<Link>,
         cells: usize,
-        facts: &'a Facts,
+        facts: &'a Facts<'a>,
         longs: Longs,
     ) -> Result<System<'a>, AllocError>
         requires { IsSystem facts.now longs cells links }
