@@ -1,5 +1,5 @@
 //! Parts of the grammar, vectors of them, and contents of a size that they fill.
-ghost use Rattle.std.specs.Prelude.{◌≡◌, ◌≤◌, List, ℕ, length};
+ghost use Rattle.std.specs.Prelude.{◌≡◌, ◌≤◌, List, [], ℕ, length, IfOk};
 ghost use Rattle.gu_syntax.specs.Reading.{Read, items_at, vector_at, sized_at};
 ghost use Rattle.gu_read_parts.specs.Gives.{Gives, left_of};
 
@@ -7,7 +7,10 @@ use crate::bytes::{close, read_content};
 use crate::numbers::read_u32;
 use crate::stop::Stop;
 use gu_types::List;
-use std::alloc::Global;
+use std::alloc::{AllocError, Global};
+
+/// How many items are made room for before they are read, at most.
+const FEW: u32 = 64;
 
 /// A part of the grammar.
 pub trait Part {
@@ -39,7 +42,8 @@ impl Part for Index {
     }
 }
 
-/// So many items, one behind another. Memory is taken item by item, and never by the count.
+/// So many items, one behind another. Few items have exactly the room that they need; for more than
+/// that memory is taken as they are read, and never by the count.
 pub fn read_items<P: Part>(
     alloc: Global,
     count: u32,
@@ -49,13 +53,20 @@ pub fn read_items<P: Part>(
     ensures inside { left_of result ≤ length bytes.now }
 {
     let mut rest = bytes;
-    let mut items = List::new(alloc);
+    let mut items = no_items(alloc, count)?;
     'items: for _ in 0..count {
         let (item, behind) = P::read(alloc, rest)?;
         items.push(item)?;
         rest = behind;
     }
     Ok((items, rest))
+}
+
+/// No items, with room for as many as are said to follow, if they are few.
+fn no_items<T>(alloc: Global, count: u32) -> Result<List<T>, AllocError>
+    ensures { IfOk result (λ items. items ≡ []) }
+{
+    Ok(List::from_vec(Vec::with_capacity(alloc, count.min(FEW) as usize)?))
 }
 
 /// A vector: how many items, and the items (5.1.3 Lists).

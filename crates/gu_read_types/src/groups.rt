@@ -38,7 +38,7 @@ fn read_group(alloc: Global, bytes: &[u8]) -> Result<(RecGroup, &[u8]), Stop>
         }
         _ => {
             let (ty, rest) = read_sub(alloc, bytes)?;
-            let mut types = List::new(alloc);
+            let mut types = List::from_vec(Vec::with_capacity(alloc, 1)?);
             types.push(ty)?;
             Ok((RecGroup { types }, rest))
         }

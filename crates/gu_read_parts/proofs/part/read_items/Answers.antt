@@ -4,7 +4,7 @@ use Rattle.gu_read_parts.proofs.Vectors.{items_begin, goes_on}
 use Rattle.gu_read_parts.proofs.part.read_items.Goals as goal
 
 pub items-init : goal.items-init
-items-init g c = record { reads = rw c.new-items.ensures (items_begin g.P.Part.at c.args.count c.args.bytes.now); inside = omega arith }
+items-init g c = record { reads = rw c.in_ok-items.ensures (items_begin g.P.Part.at c.args.count c.args.bytes.now); inside = omega arith }
 
 pub items-preserved : goal.items-preserved
 items-preserved g c = record {
