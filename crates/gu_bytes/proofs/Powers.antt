@@ -31,3 +31,5 @@ pub at_most_6 : (bits : ℕ) → bits ≤ 7 → 2 ^ (bits - 1) ≤ 64
 at_most_6 bits h = pow_mono (let e : bits - 1 ≤ 6 = omega (arith, h) in e)
 
 pub ruleset powers = (seven_more, below_64, at_least_7)
+
+pub ruleset signed_powers = (at_least_6, at_least_7)

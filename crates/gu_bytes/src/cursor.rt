@@ -159,8 +159,10 @@ impl<'a> Cursor<'a> {
         self.signed(64)
     }
 
+    #[inline(always)]
     fn unsigned(&mut self, bits: u32) -> Result<u64, Bad>
-        requires { bits ≤ 64 }
+        requires low { 14 < bits }
+        requires high { bits ≤ 64 }
         ensures integer { IfOk result (λ v. PassesUnsigned bits v self.old self.new) }
         ensures none { OnErr result (HoldsNoUnsigned bits self.old.rest) }
         ensures stays { IfErr result (λ bad. Stays bad self.old self.new) }
@@ -168,7 +170,7 @@ impl<'a> Cursor<'a> {
         ensures fits { IfOk result (λ v. v < 2 ^ bits) }
     {
         let rest = self.rest;
-        match split_unsigned(rest, bits) {
+        match split_wide_unsigned(rest, bits) {
             None => Err(Bad { at: self.at }),
             Some((value, more)) => {
                 self.pass_to(more);
@@ -177,8 +179,9 @@ impl<'a> Cursor<'a> {
         }
     }
 
+    #[inline(always)]
     fn signed(&mut self, bits: u32) -> Result<i64, Bad>
-        requires low { 1 ≤ bits }
+        requires low { 14 < bits }
         requires high { bits ≤ 64 }
         ensures integer { IfOk result (λ v. PassesSigned bits v self.old self.new) }
         ensures none { OnErr result (HoldsNoSigned bits self.old.rest) }
@@ -187,7 +190,7 @@ impl<'a> Cursor<'a> {
         ensures fits { IfOk result (λ v. FitsBits bits v) }
     {
         let rest = self.rest;
-        match split_signed(rest, bits) {
+        match split_wide_signed(rest, bits) {
             None => Err(Bad { at: self.at }),
             Some((value, more)) => {
                 self.pass_to(more);
@@ -207,7 +210,43 @@ impl<'a> Cursor<'a> {
     }
 }
 
+/// The unsigned integer of many bits that the bytes begin with, and the bytes behind it. One of two
+/// bytes, as most are, is read without a call.
+#[inline(always)]
+#[tactic(auto, using(crate::proofs::Powers::powers))]
+fn split_wide_unsigned(bytes: &[u8], bits: u32) -> Option<(u64, &[u8])>
+    requires low { 14 < bits }
+    requires high { bits ≤ 64 }
+    ensures value { option_map (λ x. (x.0, x.1.now)) result ≡ unsigned_at bits bytes.now }
+    ensures fits { IfSome result (λ x. (x.0 < 2 ^ bits) × (length x.1.now < length bytes.now)) }
+{
+    let (byte, behind) = bytes.split_first()?;
+    if *byte < 128 {
+        return Some((u64::from(*byte), behind));
+    }
+    let (high, rest) = split_next_unsigned(behind, bits - 7)?;
+    Some((128 * high + u64::from(*byte - 128), rest))
+}
+
+/// The same behind a first byte.
+#[inline(always)]
+#[tactic(auto, using(crate::proofs::Powers::powers))]
+fn split_next_unsigned(bytes: &[u8], bits: u32) -> Option<(u64, &[u8])>
+    requires low { 7 < bits }
+    requires high { bits ≤ 64 }
+    ensures value { option_map (λ x. (x.0, x.1.now)) result ≡ unsigned_at bits bytes.now }
+    ensures fits { IfSome result (λ x. (x.0 < 2 ^ bits) × (length x.1.now < length bytes.now)) }
+{
+    let (byte, behind) = bytes.split_first()?;
+    if *byte < 128 {
+        return Some((u64::from(*byte), behind));
+    }
+    let (high, rest) = split_unsigned(behind, bits - 7)?;
+    Some((128 * high + u64::from(*byte - 128), rest))
+}
+
 /// The unsigned integer that the bytes begin with, and the bytes behind it.
+#[inline(never)]
 #[tactic(auto, using(crate::proofs::Powers::powers))]
 fn split_unsigned(bytes: &[u8], bits: u32) -> Option<(u64, &[u8])>
     requires { bits ≤ 64 }
@@ -237,7 +276,49 @@ fn is_within(byte: u8, bits: u32) -> bool
     bits >= 7 || byte < 1 << bits
 }
 
+/// The signed integer of many bits that the bytes begin with, and the bytes behind it. One of two
+/// bytes, as most are, is read without a call.
+#[inline(always)]
+#[tactic(auto, using(crate::proofs::Powers::signed_powers))]
+fn split_wide_signed(bytes: &[u8], bits: u32) -> Option<(i64, &[u8])>
+    requires low { 14 < bits }
+    requires high { bits ≤ 64 }
+    ensures value { option_map (λ x. (x.0, x.1.now)) result ≡ signed_at bits bytes.now }
+    ensures fits { IfSome result (λ x. FitsBits bits x.0 × (length x.1.now < length bytes.now)) }
+{
+    let (byte, behind) = bytes.split_first()?;
+    if *byte < 64 {
+        return Some((i64::from(*byte), behind));
+    }
+    if *byte < 128 {
+        return Some((i64::from(*byte) - 128, behind));
+    }
+    let (high, rest) = split_next_signed(behind, bits - 7)?;
+    Some((128 * high + i64::from(*byte - 128), rest))
+}
+
+/// The same behind a first byte.
+#[inline(always)]
+#[tactic(auto, using(crate::proofs::Powers::signed_powers))]
+fn split_next_signed(bytes: &[u8], bits: u32) -> Option<(i64, &[u8])>
+    requires low { 7 < bits }
+    requires high { bits ≤ 64 }
+    ensures value { option_map (λ x. (x.0, x.1.now)) result ≡ signed_at bits bytes.now }
+    ensures fits { IfSome result (λ x. FitsBits bits x.0 × (length x.1.now < length bytes.now)) }
+{
+    let (byte, behind) = bytes.split_first()?;
+    if *byte < 64 {
+        return Some((i64::from(*byte), behind));
+    }
+    if *byte < 128 {
+        return Some((i64::from(*byte) - 128, behind));
+    }
+    let (high, rest) = split_signed(behind, bits - 7)?;
+    Some((128 * high + i64::from(*byte - 128), rest))
+}
+
 /// The signed integer that the bytes begin with, and the bytes behind it.
+#[inline(never)]
 #[tactic(auto, using(crate::proofs::Powers::powers))]
 fn split_signed(bytes: &[u8], bits: u32) -> Option<(i64, &[u8])>
     requires low { 1 ≤ bits }
