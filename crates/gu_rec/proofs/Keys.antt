@@ -1,5 +1,5 @@
 -- Derived comparison and cloning of types: what is found equal, and what a clone is, is the same.
-use Rattle.std.proofs.Common.{◌≡◌, Bool, true, ◌&&◌, List, [], ◌∷◌, refl, ap, nat_eq, rules}
+use Rattle.std.proofs.Common.{◌≡◌, true, ◌&&◌, List, [], ◌∷◌, refl, ap, nat_eq, rules}
 use Rattle.std.specs.Bool.{beq}
 use denote.Enum.Bare.{same_true}
 use Rattle.gu_types.specs.contracts.types.Abs.{the_type}
@@ -26,13 +26,11 @@ use Rattle.gu_types.specs.contracts.types.RefTypePartialEq.TheImpl as reference
 use Rattle.gu_types.specs.contracts.types.ValTypePartialEq.TheImpl as val
 use Rattle.gu_types.specs.contracts.types.StoragePartialEq.TheImpl as storage
 use Rattle.gu_types.specs.contracts.types.FieldTypePartialEq.TheImpl as field
-use Rattle.gu_types.specs.contracts.types.CompPartialEq.TheImpl as comp
-use Rattle.gu_types.specs.contracts.types.SubTypePartialEq.TheImpl as sub
-use Rattle.gu_types.specs.contracts.types.RecGroupPartialEq.TheImpl as group
 use Rattle.gu_types.specs.contracts.types.CompClone.TheImpl as comp_clone
 use Rattle.gu_types.specs.contracts.types.SubTypeClone.TheImpl as sub_clone
 use Rattle.gu_types.specs.contracts.types.RecGroupClone.TheImpl as group_clone
 use Rattle.gu_types.specs.contracts.types.TypeListClone.TheImpl as list_clone
+use Rattle.gu_rec.specs.Alike.{alike_comps, alike_types, alike_lists}
 use Rattle.gu_rec.proofs.Same.{Tells, lists_tell, left_of, right_of, both_of, bool_sound, bool_own, numbers_tell}
 
 -- the derived tests find only equal things equal, and each thing equal to itself
@@ -113,7 +111,7 @@ field_own a = both_of ((storage.eq-value).it a.storage a.storage) (beq a.mutable
 fields_tell : Tells (field.eq-value).it
 fields_tell = record { sound = field_sound; own = field_own }
 
-comp_sound : (a b : Comp) → (comp.eq-value).it a b ≡ true → a ≡ b
+comp_sound : (a b : Comp) → alike_comps a b ≡ true → a ≡ b
 comp_sound (C.Func p r) (C.Func q s) h = λ i. C.Func ((lists_tell vals_tell).sound p q (left_of (pointwise (val.eq-value).it p q) (pointwise (val.eq-value).it r s) h) i) ((lists_tell vals_tell).sound r s (right_of (pointwise (val.eq-value).it p q) (pointwise (val.eq-value).it r s) h) i)
 comp_sound (C.Func p r) (C.Struct g) h = cc
 comp_sound (C.Func p r) (C.Array g) h = cc
@@ -124,37 +122,31 @@ comp_sound (C.Array f) (C.Func q s) h = cc
 comp_sound (C.Array f) (C.Struct g) h = cc
 comp_sound (C.Array f) (C.Array g) h = ap C.Array (field_sound f g h)
 
-comp_own : (a : Comp) → (comp.eq-value).it a a ≡ true
+comp_own : (a : Comp) → alike_comps a a ≡ true
 comp_own (C.Func p r) = both_of (pointwise (val.eq-value).it p p) (pointwise (val.eq-value).it r r) ((lists_tell vals_tell).own p) ((lists_tell vals_tell).own r)
 comp_own (C.Struct f) = (lists_tell fields_tell).own f
 comp_own (C.Array f) = field_own f
 
-sub_sound : (a b : SubType) → (sub.eq-value).it a b ≡ true → a ≡ b
+sub_sound : (a b : SubType) → alike_types a b ≡ true → a ≡ b
 sub_sound a b h =
-    let rest : (pointwise nat_eq a.supers b.supers && (comp.eq-value).it a.comp b.comp) ≡ true = right_of (beq a.is_final b.is_final) (pointwise nat_eq a.supers b.supers && (comp.eq-value).it a.comp b.comp) h in
+    let rest : (pointwise nat_eq a.supers b.supers && alike_comps a.comp b.comp) ≡ true = right_of (beq a.is_final b.is_final) (pointwise nat_eq a.supers b.supers && alike_comps a.comp b.comp) h in
     λ i. record {
-      is_final = bool_sound a.is_final b.is_final (left_of (beq a.is_final b.is_final) (pointwise nat_eq a.supers b.supers && (comp.eq-value).it a.comp b.comp) h) i;
-      supers = (lists_tell numbers_tell).sound a.supers b.supers (left_of (pointwise nat_eq a.supers b.supers) ((comp.eq-value).it a.comp b.comp) rest) i;
-      comp = comp_sound a.comp b.comp (right_of (pointwise nat_eq a.supers b.supers) ((comp.eq-value).it a.comp b.comp) rest) i;
+      is_final = bool_sound a.is_final b.is_final (left_of (beq a.is_final b.is_final) (pointwise nat_eq a.supers b.supers && alike_comps a.comp b.comp) h) i;
+      supers = (lists_tell numbers_tell).sound a.supers b.supers (left_of (pointwise nat_eq a.supers b.supers) (alike_comps a.comp b.comp) rest) i;
+      comp = comp_sound a.comp b.comp (right_of (pointwise nat_eq a.supers b.supers) (alike_comps a.comp b.comp) rest) i;
     }
 
-sub_own : (a : SubType) → (sub.eq-value).it a a ≡ true
+sub_own : (a : SubType) → alike_types a a ≡ true
 sub_own a =
-    both_of (beq a.is_final a.is_final) (pointwise nat_eq a.supers a.supers && (comp.eq-value).it a.comp a.comp) (bool_own a.is_final)
-    (both_of (pointwise nat_eq a.supers a.supers) ((comp.eq-value).it a.comp a.comp) ((lists_tell numbers_tell).own a.supers) (comp_own a.comp))
+    both_of (beq a.is_final a.is_final) (pointwise nat_eq a.supers a.supers && alike_comps a.comp a.comp) (bool_own a.is_final)
+    (both_of (pointwise nat_eq a.supers a.supers) (alike_comps a.comp a.comp) ((lists_tell numbers_tell).own a.supers) (comp_own a.comp))
 
-subs_tell : Tells (sub.eq-value).it
+subs_tell : Tells alike_types
 subs_tell = record { sound = sub_sound; own = sub_own }
 
 -- the test on keys
-abbrev pub eq_key : RecGroup → RecGroup → Bool
-eq_key = (group.eq-value).it
-
-pub keys_tell : Tells eq_key
-keys_tell = record {
-  sound = λ a b h. λ i. record { types = (lists_tell subs_tell).sound a.types b.types h i };
-  own = λ a. (lists_tell subs_tell).own a.types;
-}
+pub keys_tell : Tells alike_lists
+keys_tell = lists_tell subs_tell
 
 zip_same : {X : Type 0} (R : X → X → Type 0) → ((x y : X) → R x y → y ≡ x) → (xs ys : List X) → AllZip R xs ys → ys ≡ xs
 zip_same R same [] [] h = refl

@@ -1,4 +1,6 @@
 mod Examples
+pub mod Alike
+pub mod Chained
 pub mod Same
 pub mod Below
 pub mod Keys

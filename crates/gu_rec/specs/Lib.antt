@@ -4,6 +4,8 @@ pub mod Tests
 pub mod Sub
 pub mod Validity
 pub mod Laws
+pub mod Hashes
+pub mod Alike
 pub mod Keys
 pub mod Cause
 pub mod Table

@@ -1,15 +1,18 @@
-//! Keys of closed recursion groups: the group with a number for each index in it.
+//! Keys of closed recursion groups: a group with a number in the place of each index in it. No key
+//! is ever made: it is hashed and compared as it would be.
 ghost use Rattle.std.specs.Prelude.{◌≡◌, ◌+◌, ◌<◌, ◌^◌, ◌++◌, IfOk, OnOk, map, length};
+ghost use Rattle.std.specs.Cmp.Lexicographic.{pointwise};
 ghost use Rattle.gu_types.specs.Depth.{types_of};
 ghost use Rattle.gu_rec.specs.Validity.{IndicesHold};
 ghost use Rattle.gu_rec.specs.Names.{rename_heap, rename_val, rename_storage, rename_field, rename_comp, rename};
-ghost use Rattle.gu_rec.specs.Keys.{number_of, NumbersFit, FirstIs, run, LeastIndices};
+ghost use Rattle.gu_rec.specs.Keys.{number_of, NumbersFit, run, LeastIndices};
+ghost use Rattle.gu_rec.specs.Hashes.{feed_indices, feed_vals, feed_fields, feed_comp, feed_type, hash_of};
+ghost use Rattle.gu_rec.specs.Alike.{alike_indices, alike_vals, alike_fields, alike_comps, alike_types, alike_lists};
 
-use gu_types::{
-    Comp, FieldType, HeapType, List, RecGroup, RefType, Storage, SubType, TypeList, ValType,
-};
-use indexmap::IndexSet;
+use crate::distinct::Table;
+use gu_types::{Comp, FieldType, HeapType, RecGroup, RefType, Storage, SubType, TypeList, ValType};
 use std::alloc::{AllocError, Global};
+use std::hash::{FoldHasher, Hash, Hasher};
 
 /// The number that stands for an index: past the `count` positions of the group the number of the
 /// earlier type, else the position in the group.
@@ -69,129 +72,229 @@ fn number_field(field: FieldType, numbers: &[u32], count: u32) -> FieldType
     }
 }
 
-fn number_vals(
-    alloc: Global,
-    types: &[ValType],
-    numbers: &[u32],
-    count: u32,
-) -> Result<List<ValType>, AllocError>
+/// Feeds a hasher with the numbers that stand for indices.
+fn hash_indices(state: &mut FoldHasher, indices: &[u32], numbers: &[u32], count: u32)
     requires { NumbersFit numbers.now count }
-    ensures { IfOk result (λ list. list ≡ map (rename_val (number_of numbers.now count)) types.now) }
+    ensures { state.new ≡ feed_indices state.old (map (number_of numbers.now count) indices.now) }
 {
-    let mut items = Vec::with_capacity(alloc, types.len())?;
+    state.write_usize(indices.len());
+    for index in indices {
+        state.write_u32(number(*index, numbers, count));
+    }
+}
+
+/// Feeds a hasher with value types, with numbers in the place of indices.
+fn hash_vals(state: &mut FoldHasher, types: &[ValType], numbers: &[u32], count: u32)
+    requires { NumbersFit numbers.now count }
+    ensures { state.new ≡ feed_vals state.old (map (rename_val (number_of numbers.now count)) types.now) }
+{
+    state.write_usize(types.len());
     for ty in types {
-        items.push(number_val(*ty, numbers, count))?;
+        number_val(*ty, numbers, count).hash(state);
     }
-    Ok(List::from_vec(items))
 }
 
-fn number_fields(
-    alloc: Global,
-    fields: &[FieldType],
-    numbers: &[u32],
-    count: u32,
-) -> Result<List<FieldType>, AllocError>
+/// Feeds a hasher with fields, with numbers in the place of indices.
+fn hash_fields(state: &mut FoldHasher, fields: &[FieldType], numbers: &[u32], count: u32)
     requires { NumbersFit numbers.now count }
-    ensures { IfOk result (λ list. list ≡ map (rename_field (number_of numbers.now count)) fields.now) }
+    ensures { state.new ≡ feed_fields state.old (map (rename_field (number_of numbers.now count)) fields.now) }
 {
-    let mut items = Vec::with_capacity(alloc, fields.len())?;
+    state.write_usize(fields.len());
     for field in fields {
-        items.push(number_field(*field, numbers, count))?;
+        number_field(*field, numbers, count).hash(state);
     }
-    Ok(List::from_vec(items))
 }
 
-fn number_comp(alloc: Global, comp: &Comp, numbers: &[u32], count: u32) -> Result<Comp, AllocError>
+/// Feeds a hasher with a composite type, with numbers in the place of indices.
+fn hash_comp(state: &mut FoldHasher, comp: &Comp, numbers: &[u32], count: u32)
     requires { NumbersFit numbers.now count }
-    ensures { IfOk result (λ key. key ≡ rename_comp (number_of numbers.now count) comp.now) }
+    ensures { state.new ≡ feed_comp state.old (rename_comp (number_of numbers.now count) comp.now) }
 {
     match comp {
         Comp::Func { params, results } => {
-            let params = number_vals(alloc, params.as_slice(), numbers, count)?;
-            let results = number_vals(alloc, results.as_slice(), numbers, count)?;
-            Ok(Comp::Func { params, results })
+            state.write_u8(0);
+            hash_vals(state, params.as_slice(), numbers, count);
+            hash_vals(state, results.as_slice(), numbers, count);
         }
         Comp::Struct(fields) => {
-            let fields = number_fields(alloc, fields.as_slice(), numbers, count)?;
-            Ok(Comp::Struct(fields))
+            state.write_u8(1);
+            hash_fields(state, fields.as_slice(), numbers, count);
         }
-        Comp::Array(field) => Ok(Comp::Array(number_field(*field, numbers, count))),
+        Comp::Array(field) => {
+            state.write_u8(2);
+            number_field(*field, numbers, count).hash(state);
+        }
     }
 }
 
-fn number_indices(
-    alloc: Global,
-    indices: &[u32],
+/// Feeds a hasher with a type, with numbers in the place of indices.
+fn hash_type(state: &mut FoldHasher, ty: &SubType, numbers: &[u32], count: u32)
+    requires { NumbersFit numbers.now count }
+    ensures { state.new ≡ feed_type state.old (rename (number_of numbers.now count) ty.now) }
+{
+    ty.is_final.hash(state);
+    hash_indices(state, ty.supers.as_slice(), numbers, count);
+    hash_comp(state, &ty.comp, numbers, count);
+}
+
+/// The hash of the key of a group of `count` types behind types that have numbers.
+pub(crate) fn hash_types(types: &[SubType], numbers: &[u32], count: u32) -> u32
+    requires { NumbersFit numbers.now count }
+    ensures { result ≡ hash_of (map (rename (number_of numbers.now count)) types.now) }
+{
+    let mut state = FoldHasher::default();
+    for ty in types {
+        hash_type(&mut state, ty, numbers, count);
+    }
+    (state.finish() % (1 << 32)) as u32
+}
+
+/// Whether indices stand for the same numbers, where the first stand behind other numbers.
+fn same_indices(one: &[u32], other: &[u32], earlier: &[u32], numbers: &[u32], count: u32) -> bool
+    requires first { NumbersFit earlier.now count }
+    requires second { NumbersFit numbers.now count }
+    ensures { result ≡ alike_indices (map (number_of earlier.now count) one.now) (map (number_of numbers.now count) other.now) }
+{
+    if one.len() != other.len() {
+        return false;
+    }
+    for k in 0..one.len() {
+        if number(one[k], earlier, count) != number(other[k], numbers, count) {
+            return false;
+        }
+    }
+    true
+}
+
+/// Whether value types have the same key, where the first stand behind other numbers.
+fn same_vals(
+    one: &[ValType],
+    other: &[ValType],
+    earlier: &[u32],
     numbers: &[u32],
     count: u32,
-) -> Result<List<u32>, AllocError>
-    requires { NumbersFit numbers.now count }
-    ensures { IfOk result (λ list. list ≡ map (number_of numbers.now count) indices.now) }
+) -> bool
+    requires first { NumbersFit earlier.now count }
+    requires second { NumbersFit numbers.now count }
+    ensures { result ≡ alike_vals (map (rename_val (number_of earlier.now count)) one.now) (map (rename_val (number_of numbers.now count)) other.now) }
 {
-    let mut items = Vec::with_capacity(alloc, indices.len())?;
-    for index in indices {
-        items.push(number(*index, numbers, count))?;
+    if one.len() != other.len() {
+        return false;
     }
-    Ok(List::from_vec(items))
+    for k in 0..one.len() {
+        if number_val(one[k], earlier, count) != number_val(other[k], numbers, count) {
+            return false;
+        }
+    }
+    true
 }
 
-fn number_type(
-    alloc: Global,
-    ty: &SubType,
+/// Whether fields have the same key, where the first stand behind other numbers.
+fn same_fields(
+    one: &[FieldType],
+    other: &[FieldType],
+    earlier: &[u32],
     numbers: &[u32],
     count: u32,
-) -> Result<SubType, AllocError>
-    requires { NumbersFit numbers.now count }
-    ensures { IfOk result (λ key. key ≡ rename (number_of numbers.now count) ty.now) }
+) -> bool
+    requires first { NumbersFit earlier.now count }
+    requires second { NumbersFit numbers.now count }
+    ensures { result ≡ alike_fields (map (rename_field (number_of earlier.now count)) one.now) (map (rename_field (number_of numbers.now count)) other.now) }
 {
-    let supers = number_indices(alloc, ty.supers.as_slice(), numbers, count)?;
-    let comp = number_comp(alloc, &ty.comp, numbers, count)?;
-    Ok(SubType {
-        is_final: ty.is_final,
-        supers,
-        comp,
-    })
+    if one.len() != other.len() {
+        return false;
+    }
+    for k in 0..one.len() {
+        if number_field(one[k], earlier, count) != number_field(other[k], numbers, count) {
+            return false;
+        }
+    }
+    true
 }
 
-/// The key of a group of `count` types behind types that have numbers. `AllocError` only where
-/// memory is refused.
-fn key_of(
-    alloc: Global,
-    from: &[SubType],
+/// Whether composite types have the same key, where the first stands behind other numbers.
+fn same_comps(one: &Comp, other: &Comp, earlier: &[u32], numbers: &[u32], count: u32) -> bool
+    requires first { NumbersFit earlier.now count }
+    requires second { NumbersFit numbers.now count }
+    ensures { result ≡ alike_comps (rename_comp (number_of earlier.now count) one.now) (rename_comp (number_of numbers.now count) other.now) }
+{
+    match (one, other) {
+        (
+            Comp::Func { params, results },
+            Comp::Func {
+                params: other_params,
+                results: other_results,
+            },
+        ) => {
+            same_vals(
+                params.as_slice(),
+                other_params.as_slice(),
+                earlier,
+                numbers,
+                count,
+            ) && same_vals(
+                results.as_slice(),
+                other_results.as_slice(),
+                earlier,
+                numbers,
+                count,
+            )
+        }
+        (Comp::Struct(fields), Comp::Struct(others)) => {
+            same_fields(
+                fields.as_slice(),
+                others.as_slice(),
+                earlier,
+                numbers,
+                count,
+            )
+        }
+        (Comp::Array(field), Comp::Array(other)) => {
+            number_field(*field, earlier, count) == number_field(*other, numbers, count)
+        }
+        _ => false,
+    }
+}
+
+/// Whether types have the same key, where the first stands behind other numbers.
+fn same_type(one: &SubType, other: &SubType, earlier: &[u32], numbers: &[u32], count: u32) -> bool
+    requires first { NumbersFit earlier.now count }
+    requires second { NumbersFit numbers.now count }
+    ensures { result ≡ alike_types (rename (number_of earlier.now count) one.now) (rename (number_of numbers.now count) other.now) }
+{
+    one.is_final == other.is_final
+        && same_indices(
+            one.supers.as_slice(),
+            other.supers.as_slice(),
+            earlier,
+            numbers,
+            count,
+        )
+        && same_comps(&one.comp, &other.comp, earlier, numbers, count)
+}
+
+/// Whether two groups have the same key: one behind types that have the `earlier` numbers, and one
+/// of `count` types behind types that have the `numbers`.
+pub(crate) fn same_types(
+    one: &[SubType],
+    other: &[SubType],
+    earlier: &[u32],
     numbers: &[u32],
     count: u32,
-) -> Result<RecGroup, AllocError>
-    requires { NumbersFit numbers.now count }
-    ensures { IfOk result (λ key. key.types ≡ map (rename (number_of numbers.now count)) from.now) }
+) -> bool
+    requires first { NumbersFit earlier.now count }
+    requires second { NumbersFit numbers.now count }
+    ensures { result ≡ alike_lists (map (rename (number_of earlier.now count)) one.now) (map (rename (number_of numbers.now count)) other.now) }
 {
-    let mut types = Vec::with_capacity(alloc, from.len())?;
-    for ty in from {
-        types.push(number_type(alloc, ty, numbers, count)?)?;
+    if one.len() != other.len() {
+        return false;
     }
-    Ok(RecGroup {
-        types: List::from_vec(types),
-    })
-}
-
-/// The index at which the first group with a key begins: that of an earlier group, or `start`
-/// where the key is new. `AllocError` only where memory is refused.
-fn first_of(
-    keys: &mut IndexSet<RecGroup>,
-    firsts: &mut Vec<u32>,
-    key: RecGroup,
-    start: u32,
-) -> Result<u32, AllocError>
-    requires { length firsts.old.items ≡ length keys.old.keys }
-    ensures { IfOk result (λ first. FirstIs keys.old.keys firsts.old.items key start first keys.new.keys firsts.new.items) }
-{
-    let Ok((number, is_new)) = keys.insert_full(key) else {
-        return Err(AllocError);
-    };
-    if is_new {
-        firsts.push(start)?;
-        return Ok(start);
+    for k in 0..one.len() {
+        if !same_type(&one[k], &other[k], earlier, numbers, count) {
+            return false;
+        }
     }
-    Ok(firsts[number])
+    true
 }
 
 /// Puts so many numbers from one on behind others.
@@ -205,22 +308,27 @@ fn push_run(numbers: &mut Vec<u32>, first: u32, count: u32) -> Result<(), AllocE
     Ok(())
 }
 
+/// The number of types in groups.
+fn type_count(groups: &[RecGroup]) -> usize {
+    let mut count: usize = 0;
+    for group in groups {
+        count = count.saturating_add(group.types.as_slice().len());
+    }
+    count
+}
+
 /// The least index of each type. `AllocError` only where memory is refused.
 pub(crate) fn least_indices(alloc: Global, list: &TypeList) -> Result<Vec<u32>, AllocError>
     requires hold { IndicesHold list.now }
     requires fit { length (types_of list.now) < 2 ^ 32 }
     ensures { IfOk result (λ numbers. LeastIndices list.now numbers.items) }
 {
-    let mut keys: IndexSet<RecGroup> = IndexSet::new(alloc);
-    let mut firsts: Vec<u32> = Vec::new(alloc);
-    let mut numbers: Vec<u32> = Vec::new(alloc);
     let groups = list.groups.as_slice();
-    for group in groups {
-        let start = numbers.len() as u32;
-        let types = group.types.as_slice();
-        let count = types.len() as u32;
-        let key = key_of(alloc, types, numbers.as_slice(), count)?;
-        let first = first_of(&mut keys, &mut firsts, key, start)?;
+    let mut table = Table::with_capacity(alloc, groups.len())?;
+    let mut numbers: Vec<u32> = Vec::with_capacity(alloc, type_count(groups))?;
+    for group in 0..groups.len() {
+        let count = groups[group].types.as_slice().len() as u32;
+        let first = table.first_of(groups, group, numbers.as_slice())?;
         push_run(&mut numbers, first, count)?;
     }
     Ok(numbers)

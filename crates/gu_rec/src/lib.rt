@@ -4,6 +4,7 @@
 
 mod abs;
 mod build;
+mod distinct;
 mod error;
 mod height;
 mod interning;
