@@ -1,5 +1,5 @@
 //! Expressions (core specification 3.0, 5.4 Instructions).
-ghost use Rattle.std.specs.Prelude.{◌≡◌, ◌++◌, ◌∷◌, OnOk, IfErr};
+ghost use Rattle.std.specs.Prelude.{◌≡◌, ◌++◌, ◌∷◌, OnOk, IfErr, IfSome};
 ghost use Rattle.gu_bytes.specs.Numbers.{least_unsigned};
 ghost use Rattle.gu_syntax.specs.Code.{code_of, ins_of, choice, try_table};
 ghost use Rattle.gu_syntax.specs.Encoding.{encode_block_type, encode_catch, encode_leaf, encode_ins, encode_until, encode_body};
@@ -9,7 +9,8 @@ ghost use Rattle.gu_write_code.specs.Layouts.{block_text};
 
 use crate::layout::put_layout;
 use crate::tables::layout_of;
-use gu_bytes::{put_s33, put_u32};
+use gu_bytes::{put_s32, put_s33, put_u32};
+use gu_optab::code_of;
 use gu_syntax::{BlockType, Body, BranchTable, Catch, Choice, Guarded, Instr, Structured};
 use gu_types::ValType;
 use gu_write_parts::{
@@ -123,10 +124,22 @@ fn put_guarded(alloc: Global, out: &mut Vec<u8>, whole: &Guarded) -> Result<(), 
 
 /// Appends the code of a block and its type (5.4.1 Control Instructions). The error says that memory
 /// ran out.
+#[inline(always)]
 fn put_opening(alloc: Global, out: &mut Vec<u8>, code: u8, ty: BlockType) -> Result<(), AllocError>
     ensures { OnOk result (out.new.items ≡ out.old.items ++ code ∷ encode_block_type ty) }
 {
     put_byte(out, code)?;
+    match ty {
+        BlockType::Empty => put_byte(out, 0x40),
+        _ => put_type(alloc, out, ty),
+    }
+}
+
+/// Appends the type of a block (5.4.1 Control Instructions). The error says that memory ran out.
+#[inline(never)]
+fn put_type(alloc: Global, out: &mut Vec<u8>, ty: BlockType) -> Result<(), AllocError>
+    ensures { OnOk result (out.new.items ≡ out.old.items ++ encode_block_type ty) }
+{
     match ty {
         BlockType::Empty => put_byte(out, 0x40),
         BlockType::Val(ty) => put_val(alloc, out, ty),
@@ -183,10 +196,55 @@ fn put_tagged(
     put_u32(alloc, out, label)
 }
 
-/// Appends an instruction that holds no code (5.4 Instructions).
+/// The code and the index of an instruction that has one, where it is among the most common.
+#[inline(always)]
+fn short_layout(instr: &Instr) -> Option<(u8, u32)>
+    ensures { IfSome result (λ x. encode_leaf instr.now ≡ x.0 ∷ least_unsigned x.1) }
+{
+    match instr {
+        Instr::Br(label) => Some((0x0C, *label)),
+        Instr::BrIf(label) => Some((0x0D, *label)),
+        Instr::Call(func) => Some((0x10, *func)),
+        Instr::LocalGet(local) => Some((0x20, *local)),
+        Instr::LocalSet(local) => Some((0x21, *local)),
+        Instr::LocalTee(local) => Some((0x22, *local)),
+        Instr::GlobalGet(global) => Some((0x23, *global)),
+        Instr::GlobalSet(global) => Some((0x24, *global)),
+        _ => None,
+    }
+}
+
+/// Appends an instruction that holds no code, the most common ones first (5.4 Instructions).
 ///
 /// `TooLong` where it would end past 268,435,456 bytes.
+#[inline(always)]
 fn put_leaf(alloc: Global, out: &mut Vec<u8>, instr: &Instr) -> Result<(), WriteErr>
+    requires { IsShapedLeaf instr.now }
+    ensures ok { OnOk result (out.new.items ≡ out.old.items ++ encode_leaf instr.now) }
+    ensures too_long { IfErr result (BlamesEnd out.old.items (encode_leaf instr.now)) }
+{
+    if let Some((code, index)) = short_layout(instr) {
+        put_byte(out, code)?;
+        put_u32(alloc, out, index)?;
+        return Ok(());
+    }
+    match instr {
+        Instr::I32Const(value) => {
+            put_byte(out, 0x41)?;
+            put_s32(alloc, out, *value)?;
+            Ok(())
+        }
+        Instr::Num(op) => {
+            put_byte(out, code_of(*op))?;
+            Ok(())
+        }
+        _ => put_any_leaf(alloc, out, instr),
+    }
+}
+
+/// The same, whatever instruction it is.
+#[inline(never)]
+fn put_any_leaf(alloc: Global, out: &mut Vec<u8>, instr: &Instr) -> Result<(), WriteErr>
     requires { IsShapedLeaf instr.now }
     ensures ok { OnOk result (out.new.items ≡ out.old.items ++ encode_leaf instr.now) }
     ensures too_long { IfErr result (BlamesEnd out.old.items (encode_leaf instr.now)) }
