@@ -15,7 +15,7 @@ use gu_types::{Abs, Comp, FieldType, HeapType, List, RefType, SubType, ValType};
 #[derive(Drop)]
 pub struct Env<'a> {
     /// The types of the module.
-    pub types: &'a Types,
+    pub types: &'a Types<'a>,
     /// The functions, by the indices of their types.
     pub funcs: List<u32>,
     /// The tables, by the types of their entries.
