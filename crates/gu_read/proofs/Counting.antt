@@ -31,13 +31,6 @@ within_map f most (x ∷ xs) = ap (λ n. cond (not (nat_lt most (f x))) (1 + n) 
 pub above_map : {X : Type 0} (f : X → ℕ) (most : ℕ) (xs : List X) → first_above (λ n. n) most (map f xs) ≡ first_above f most xs
 above_map f most xs = ap (λ n. first_of n (length (map f xs))) (within_map f most xs) ∙ ap (λ n. first_of (prefix_len (λ x. not (nat_lt most (f x))) xs) n) (length-map xs f)
 
-within_views : {X Y : Type 0} (v : X → Y) (f : Y → ℕ) (most : ℕ) (xs : List X) → prefix_len (λ x. not (nat_lt most (f (v x)))) xs ≡ prefix_len (λ y. not (nat_lt most (f y))) (map v xs)
-within_views v f most [] = refl
-within_views v f most (x ∷ xs) = ap (λ n. cond (not (nat_lt most (f (v x)))) (1 + n) 0) (within_views v f most xs)
-
-pub above_views : {X Y : Type 0} (v : X → Y) (f : Y → ℕ) (most : ℕ) (xs : List X) → first_above (λ n. n) most (map (λ x. f (v x)) xs) ≡ first_above f most (map v xs)
-above_views v f most xs = above_map (λ x. f (v x)) most xs ∙ (ap (λ n. first_of n (length xs)) (within_views v f most xs) ∙ ap (λ n. first_of (prefix_len (λ y. not (nat_lt most (f y))) (map v xs)) n) (sym (length-map xs v)))
-
 -- locals that are counted up to the limit
 capped_test : (n : ℕ) (b : Bool) → nat_lt 50000 n ≡ b → nat_lt 50000 (if b then 50001 else n) ≡ b
 capped_test n true e = refl

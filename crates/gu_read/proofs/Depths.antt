@@ -1,13 +1,15 @@
 -- The depth of a type, from that of its supertype.
-use Rattle.std.proofs.Common.{◌≡◌, ℕ, zero, suc, [], ◌∷◌, length, map, get_or, ◌<◌, ◌≤◌, Bool, true, false, List, nat_lt, if◌then◌else◌, slice_get, Option, Some, None, refl, ap, sym, ◌∙◌, arith, ltb-true}
-use Rattle.std.specs.Prelude.{option_map}
+use Rattle.std.proofs.Common.{◌≡◌, ℕ, zero, suc, ◌+◌, [], ◌∷◌, ◌++◌, length, map, min, get_or, ◌<◌, ◌≤◌, Bool, true, false, List, nat_lt, if◌then◌else◌, slice_get, Option, Some, None, refl, ap, sym, ◌∙◌, subst, arith, ltb-true, add-one, length-append}
 use Rattle.std.specs.List.{range_with_len}
-use Rattle.std.specs.Borrow.{Bor}
-use Rattle.std.proofs.lemmas.Option.{slice_get-map, slice_get_read}
-use Rattle.std.proofs.lemmas.List.FromFn.{length-map-range_with_len, get_or-map-range_with_len}
+use Rattle.std.proofs.Math.ListN.{get_or-append}
+use Rattle.std.proofs.Math.Seq.{get_or-append_seam}
+use Rattle.std.proofs.lemmas.List.{length-map, get_or-map}
+use Rattle.std.proofs.lemmas.Option.{slice_get-get_or}
+use Rattle.std.proofs.lemmas.List.FromFn.{length-map-range_with_len, get_or-map-range_with_len, map-range_with_len_more}
 use Rattle.gu_syntax.proofs.Takes.{below_not}
 use Rattle.gu_types.specs.declared.types.SubType.{SubType}
 use Rattle.gu_types.specs.Depth.{parent, smaller, first_of, first_super, one_above, depth_within, depth}
+use Rattle.gu_read.specs.Seen.{kept_depth, depths_in}
 
 smaller_below : (i : ℕ) (o : Option ℕ) (p : ℕ) → smaller i o ≡ Some p → p < i
 smaller_below i None p h = cc
@@ -47,26 +49,33 @@ pub depth_step : (types : List SubType) (i p : ℕ) → parent types i ≡ Some 
 depth_step types zero p e = absurd (let h = parent_below types 0 p e in omega arith)
 depth_step types (suc i) p e = ap (one_above (depth_within i types)) e ∙ ap suc (let b = parent_below types (suc i) p e in enough types i p p (omega arith) (omega arith))
 
-above_most : (f : ℕ → ℕ) (m : ℕ) (o : Option ℕ) → ((p : ℕ) → f p ≤ m) → one_above f o ≤ suc m
-above_most f m None h = omega arith
-above_most f m (Some p) h = let k = h p in omega arith
-
-at_most : (types : List SubType) (m i : ℕ) → depth_within m types i ≤ m
-at_most types zero i = omega arith
-at_most types (suc m) i = above_most (depth_within m types) m (parent types i) (λ p. at_most types m p)
-
-pub depth_at_most : (types : List SubType) (i : ℕ) → depth types i ≤ i
-depth_at_most types i = at_most types i i
-
 -- the supertype of a type, by what is read of it
 first_get : (xs : List ℕ) → first_of xs ≡ slice_get xs 0
 first_get [] = refl
 first_get (x ∷ xs) = refl
 
-pub parent_is : (types : List (Bor SubType)) (i : ℕ) (ty : Bor SubType) (supers : List ℕ) (o : Option ℕ) → i < length types → ty ≡ get_or types i ty → supers ≡ (get_or types i ty).now.supers → o ≡ slice_get supers 0 → parent (map (λ t. t.now) types) i ≡ smaller i o
-parent_is types i ty supers o below is e h =
-    ap (λ t. smaller i (first_super t)) (slice_get-map (λ (t : Bor SubType). t.now) types i ∙ ap (option_map (λ (t : Bor SubType). t.now)) (slice_get_read types (length types) i ty refl below is))
-    ∙ ap (smaller i) (first_get ty.now.supers ∙ ap (λ s. slice_get s 0) (sym (e ∙ ap (λ (t : Bor SubType). t.now.supers) (sym is))) ∙ sym h)
+pub parent_last : (types : List SubType) (ty : SubType) (supers : List ℕ) (o : Option ℕ) → supers ≡ ty.supers → o ≡ slice_get supers 0 → parent (types ++ ty ∷ []) (length types) ≡ smaller (length types) o
+parent_last types ty supers o e h =
+    let n : ℕ = length types in
+    let within : n < length (types ++ ty ∷ []) = omega (arith, length-append types (ty ∷ [])) in
+    ap (λ t. smaller n (first_super t)) (slice_get-get_or (types ++ ty ∷ []) n ty within ∙ ap (λ t. Some t) (get_or-append_seam types ty [] ty))
+    ∙ ap (smaller n) (first_get ty.supers ∙ ap (λ s. slice_get s 0) (sym e) ∙ sym h)
+
+-- what stands behind a type does not matter for its depth
+parent_before : (types more : List SubType) (i : ℕ) → i < length types → parent (types ++ more) i ≡ parent types i
+parent_before [] more i h = absurd (omega (arith, h))
+parent_before (ty ∷ types) more i h =
+    let within : i < length ((ty ∷ types) ++ more) = omega (arith, length-append (ty ∷ types) more, h) in
+    ap (λ t. smaller i (first_super t)) (slice_get-get_or ((ty ∷ types) ++ more) i ty within ∙ ap (λ t. Some t) (get_or-append (ty ∷ types) more ty i h) ∙ sym (slice_get-get_or (ty ∷ types) i ty h))
+
+within_before : (most : ℕ) (types more : List SubType) (i : ℕ) → i < length types → depth_within most (types ++ more) i ≡ depth_within most types i
+within_before zero types more i h = refl
+within_before (suc most) types more i h =
+    ap (one_above (depth_within most (types ++ more))) (parent_before types more i h)
+    ∙ same_above (depth_within most (types ++ more)) (depth_within most types) (parent types i) (λ p e. let b = parent_below types i p e in within_before most types more p (omega (arith, b, h)))
+
+pub depth_before : (types more : List SubType) (i : ℕ) → i < length types → depth (types ++ more) i ≡ depth types i
+depth_before types more i h = within_before i types more i h
 
 smaller_some : (i above : ℕ) → above < i → smaller i (Some above) ≡ Some above
 smaller_some i above h = ap (λ b. if b then Some above else None) (let e : nat_lt above i ≡ true = grind (arith, h) in e)
@@ -80,9 +89,62 @@ depth_below types i above h below = depth_step types i above (h ∙ smaller_some
 pub depth_first : (types : List SubType) (i above : ℕ) → parent types i ≡ smaller i (Some above) → i ≤ above → depth types i ≡ 0
 depth_first types i above h past = depth_root types i (h ∙ smaller_none i above past)
 
--- the depths of the types before one
-pub depths_length : (types : List SubType) (depths : List ℕ) (i : ℕ) → depths ≡ map (depth types) (range_with_len 0 i) → length depths ≡ i
-depths_length types depths i h = ap length h ∙ length-map-range_with_len (depth types) 0 i
+-- the depths of types, and of one more
+same_numbers : (f g : ℕ → ℕ) (n : ℕ) → ((k : ℕ) → k < n → f k ≡ g k) → map f (range_with_len 0 n) ≡ map g (range_with_len 0 n)
+same_numbers f g zero h = refl
+same_numbers f g (suc n) h =
+    subst (λ m. map f (range_with_len 0 m) ≡ map g (range_with_len 0 m)) (add-one n)
+    (map-range_with_len_more f 0 n n (omega arith)
+    ∙ ap (λ l. l ++ f n ∷ []) (same_numbers f g n (λ k below. h k (omega (arith, below))))
+    ∙ ap (λ x. map g (range_with_len 0 n) ++ x ∷ []) (h n (omega arith))
+    ∙ sym (map-range_with_len_more g 0 n n (omega arith)))
 
-pub depths_at : (types : List SubType) (depths : List ℕ) (i above d : ℕ) → depths ≡ map (depth types) (range_with_len 0 i) → above < i → get_or depths above d ≡ depth types above
-depths_at types depths i above d h below = ap (λ l. get_or l above d) h ∙ get_or-map-range_with_len (depth types) 0 i above above d below (omega arith)
+pub depths_more : (types : List SubType) (ty : SubType) → depths_in (types ++ ty ∷ []) ≡ depths_in types ++ depth (types ++ ty ∷ []) (length types) ∷ []
+depths_more types ty =
+    let n : ℕ = length types in
+    let f : ℕ → ℕ = depth (types ++ ty ∷ []) in
+    let long : length (types ++ ty ∷ []) ≡ n + 1 = omega (arith, length-append types (ty ∷ [])) in
+    ap (λ m. map f (range_with_len 0 m)) long
+    ∙ map-range_with_len_more f 0 n n (omega arith)
+    ∙ ap (λ l. l ++ f n ∷ []) (same_numbers f (depth types) n (λ k below. depth_before types (ty ∷ []) k below))
+
+pub depths_length : (types : List SubType) (depths : List ℕ) → depths ≡ map kept_depth (depths_in types) → length depths ≡ length types
+depths_length types depths h = ap length h ∙ length-map (depths_in types) kept_depth ∙ length-map-range_with_len (depth types) 0 (length types)
+
+pub depths_at : (types : List SubType) (depths : List ℕ) (above d : ℕ) → depths ≡ map kept_depth (depths_in types) → above < length types → get_or depths above d ≡ kept_depth (depth types above)
+depths_at types depths above d h below =
+    let n : ℕ = length types in
+    let within : above < length (depths_in types) = omega (arith, length-map-range_with_len (depth types) 0 n, below) in
+    ap (λ l. get_or l above d) h
+    ∙ get_or-map kept_depth (depths_in types) above 0 d within
+    ∙ ap kept_depth (get_or-map-range_with_len (depth types) 0 n above above 0 below (omega arith))
+
+-- depths that are kept
+kept_below : (n : ℕ) → n ≤ 64 → n ≡ kept_depth n
+kept_below n h = by_test (nat_lt 63 n) refl
+  where
+    by_test : (b : Bool) → nat_lt 63 n ≡ b → n ≡ (if b then 64 else n)
+    by_test true e = let more : 63 < n = ltb-true 63 n e in omega (arith, more, h)
+    by_test false e = refl
+
+pub kept_above : (n : ℕ) → nat_lt 63 (kept_depth n) ≡ nat_lt 63 n
+kept_above n = by_test (nat_lt 63 n) refl
+  where
+    by_test : (b : Bool) → nat_lt 63 n ≡ b → nat_lt 63 (if b then 64 else n) ≡ b
+    by_test true e = refl
+    by_test false e = e
+
+pub kept_more : (n d : ℕ) → d ≡ kept_depth n → min d 63 + 1 ≡ kept_depth (suc n)
+kept_more n d h = by_test (nat_lt 63 n) refl
+  where
+    by_test : (b : Bool) → nat_lt 63 n ≡ b → min d 63 + 1 ≡ kept_depth (suc n)
+    by_test true e =
+        let more : nat_lt 63 (suc n) ≡ true = grind (arith, e) in
+        let full : d ≡ 64 = h ∙ ap (λ b. if b then 64 else n) e in
+        let sum : min d 63 + 1 ≡ 64 = omega (arith, full) in
+        sum ∙ sym (ap (λ b. if b then 64 else suc n) more)
+    by_test false e =
+        let same : d ≡ n = h ∙ ap (λ b. if b then 64 else n) e in
+        let few : n ≤ 63 = grind (arith, e) in
+        let sum : min d 63 + 1 ≡ suc n = omega (arith, same, few) in
+        sum ∙ kept_below (suc n) (omega (arith, few))

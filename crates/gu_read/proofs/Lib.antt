@@ -10,3 +10,4 @@ pub mod Flat
 pub mod Counting
 pub mod Rowing
 pub mod Shallow
+pub mod Seeing

@@ -1,22 +1,19 @@
 -- The first limit that is exceeded, row by row.
-use Rattle.std.proofs.Common.{ℕ, ◌≤◌, ◌<◌, ◌≡◌, refl, ap, ◌∙◌, sym, if◌then◌else◌, nat_lt, length, take, map, arith, List, [], ◌∷◌, ◌++◌, Bool, true, false, Option, Some, None, Result, Ok, Err}
-use Rattle.std.specs.Prelude.{sum_by, IfOk}
-use Rattle.std.specs.List.{range_with_len}
-use Rattle.std.specs.Borrow.{Bor}
-use Rattle.std.proofs.lemmas.List.{take_all, length-map}
+use Rattle.std.proofs.Common.{ℕ, ◌≤◌, ◌<◌, ◌≡◌, refl, ap, ◌∙◌, sym, if◌then◌else◌, nat_lt, length, take, map, arith, List, [], ◌∷◌, ◌++◌, Bool, true, false, Option, Some, None}
+use Rattle.std.specs.Prelude.{sum_by}
+use Rattle.std.proofs.lemmas.List.{take_all}
 use Rattle.gu_types.specs.declared.types.SubType.{SubType}
-use Rattle.gu_types.specs.Depth.{types_of, depth}
+use Rattle.gu_types.specs.Depth.{types_of}
 use Rattle.gu_syntax.specs.declared.module.Func.{Func}
 use Rattle.gu_syntax.specs.declared.module.Module.{Module}
 use Rattle.gu_read_parts.specs.declared.answer.Which.{Which}
 use Rattle.gu_read_parts.specs.declared.answer.Which.TheVariants as W
-use Rattle.gu_read.specs.Limits.{if_above, first_above, params_of, results_of, fields_of, funcs_in, globals_in, locals_of, first_deeper, exceeded_or, first_exceeded, exceeded}
+use Rattle.gu_read.specs.Limits.{if_above, first_above, params_of, results_of, funcs_in, globals_in, locals_of, exceeded_or, first_exceeded, exceeded}
+use Rattle.gu_read.specs.declared.seen.Seen as D
+use Rattle.gu_read.specs.Seen.{Sees}
 use Rattle.gu_read.specs.Rows.{capped, first_rows, type_rows, local_rows, depth_rows}
 use Rattle.gu_read.proofs.Answered.{none_or, above_true}
-use Rattle.gu_read.proofs.Counting.{above_map, above_views, above_capped, sum_capped}
-
-pub row_found : (w : Which) (o : Option ℕ) (later : Option (Which × ℕ)) (at : ℕ) → o ≡ Some at → Some (w, at) ≡ exceeded_or w o later
-row_found w o later at e = sym (ap (λ x. exceeded_or w x later) e)
+use Rattle.gu_read.proofs.Counting.{above_capped, sum_capped}
 
 pub row_none : (w : Which) (o : Option ℕ) (later : Option (Which × ℕ)) → o ≡ None → later ≡ exceeded_or w o later
 row_none w o later e = sym (ap (λ x. exceeded_or w x later) e)
@@ -56,10 +53,6 @@ few_funcs types m e =
     let n = not_above 1000000 (funcs_in m) (nat_lt 1000000 (funcs_in m)) refl b.0 in
     omega (arith, n)
 
--- numbers of types
-pub type_numbers : (f : SubType → ℕ) (most : ℕ) (types : List (Bor SubType)) (numbers : List ℕ) (n : ℕ) → numbers ≡ map (λ ty. f ty.now) (take n types) → length types ≤ n → first_above (λ n. n) most numbers ≡ first_above f most (map (λ ty. ty.now) types)
-type_numbers f most types numbers n h all = ap (λ l. first_above (λ n. n) most l) (h ∙ ap (λ l. map (λ (ty : Bor SubType). f ty.now) l) (take_all n types all)) ∙ above_views (λ (ty : Bor SubType). ty.now) f most types
-
 -- locals
 pub local_numbers : (funcs : List Func) (numbers : List ℕ) (n : ℕ) → numbers ≡ map (λ f. capped (locals_of f)) (take n funcs) → length funcs ≤ n → first_above (λ n. n) 50000 numbers ≡ first_above locals_of 50000 funcs
 local_numbers funcs numbers n h all = ap (λ l. first_above (λ n. n) 50000 l) (h ∙ ap (λ l. map (λ (f : Func). capped (locals_of f)) l) (take_all n funcs all)) ∙ above_capped funcs
@@ -67,30 +60,12 @@ local_numbers funcs numbers n h all = ap (λ l. first_above (λ n. n) 50000 l) (
 pub local_sum : (funcs : List Func) (total n : ℕ) → total ≡ sum_by (λ f. capped (locals_of f)) (take n funcs) → length funcs ≤ n → first_above locals_of 50000 funcs ≡ None → total ≡ sum_by locals_of funcs
 local_sum funcs total n h all none = h ∙ ap (λ l. sum_by (λ (f : Func). capped (locals_of f)) l) (take_all n funcs all) ∙ sum_capped funcs none
 
--- depths
-pub depth_numbers : (types : List (Bor SubType)) (numbers : List ℕ) → numbers ≡ map (depth (map (λ ty. ty.now) types)) (range_with_len 0 (length types)) → first_above (λ n. n) 63 numbers ≡ first_deeper 63 (map (λ ty. ty.now) types)
-depth_numbers types numbers h =
-    let all : List SubType = map (λ (ty : Bor SubType). ty.now) types in
-    ap (λ l. first_above (λ n. n) 63 l) h ∙ above_map (depth all) 63 (range_with_len 0 (length types)) ∙ ap (λ n. first_above (depth all) 63 (range_with_len 0 n)) (sym (length-map types (λ (ty : Bor SubType). ty.now)))
-
 -- the rows of the types
-abbrev params_on : List SubType → Option ℕ
-params_on types = first_above (λ ty. params_of ty.comp) 1000 types
-
-abbrev results_on : List SubType → Option ℕ
-results_on types = first_above (λ ty. results_of ty.comp) 1000 types
-
-abbrev fields_on : List SubType → Option ℕ
-fields_on types = first_above (λ ty. fields_of ty.comp) 10000 types
-
-pub params_row : (types : List SubType) (at : ℕ) → params_on types ≡ Some at → Some (W.Params, at) ≡ first_exceeded (type_rows types)
-params_row types at e = sym (ap (λ o. exceeded_or W.Params o (exceeded_or W.Results (results_on types) (exceeded_or W.Fields (fields_on types) None))) e)
-
-pub results_row : (types : List SubType) (at : ℕ) → params_on types ≡ None → results_on types ≡ Some at → Some (W.Results, at) ≡ first_exceeded (type_rows types)
-results_row types at p e = sym (ap (λ o. exceeded_or W.Params o (exceeded_or W.Results (results_on types) (exceeded_or W.Fields (fields_on types) None))) p ∙ ap (λ o. exceeded_or W.Results o (exceeded_or W.Fields (fields_on types) None)) e)
-
-pub fields_row : (types : List SubType) (o : Option ℕ) → params_on types ≡ None → results_on types ≡ None → fields_on types ≡ o → exceeded_or W.Fields o None ≡ first_exceeded (type_rows types)
-fields_row types x p r e = sym (ap (λ o. exceeded_or W.Params o (exceeded_or W.Results (results_on types) (exceeded_or W.Fields (fields_on types) None))) p ∙ ap (λ o. exceeded_or W.Results o (exceeded_or W.Fields (fields_on types) None)) r ∙ ap (λ o. exceeded_or W.Fields o None) e)
+pub type_row : (seen : D.Seen) (types : List SubType) → Sees seen types → exceeded_or W.Params seen.params (exceeded_or W.Results seen.results (exceeded_or W.Fields seen.fields None)) ≡ first_exceeded (type_rows types)
+type_row seen types sees =
+    ap (λ o. exceeded_or W.Params o (exceeded_or W.Results seen.results (exceeded_or W.Fields seen.fields None))) sees.params
+    ∙ ap (λ o. exceeded_or W.Params (first_above (λ ty. params_of ty.comp) 1000 types) (exceeded_or W.Results o (exceeded_or W.Fields seen.fields None))) sees.results
+    ∙ ap (λ o. exceeded_or W.Params (first_above (λ ty. params_of ty.comp) 1000 types) (exceeded_or W.Results (first_above (λ ty. results_of ty.comp) 1000 types) (exceeded_or W.Fields o None))) sees.fields
 
 -- the rows of the locals
 pub locals_row : (funcs : List Func) (at : ℕ) → first_above locals_of 50000 funcs ≡ Some at → Some (W.Locals, at) ≡ first_exceeded (local_rows funcs)
@@ -105,24 +80,33 @@ many_locals funcs total h l e = total_row funcs total true (above_true 4000000 t
 pub few_locals : (funcs : List Func) (total : ℕ) → total ≤ 4000000 → first_above locals_of 50000 funcs ≡ None → total ≡ sum_by locals_of funcs → None ≡ first_exceeded (local_rows funcs)
 few_locals funcs total h l e = total_row funcs total false (let t : nat_lt 4000000 total ≡ false = grind (arith, h) in t) l e
 
--- the row of depths
-pub depth_row : (types : List SubType) (o : Option ℕ) → first_deeper 63 types ≡ o → exceeded_or W.Depth o None ≡ first_exceeded (depth_rows types)
-depth_row types o e = sym (ap (λ x. exceeded_or W.Depth x None) e)
+-- the rows one behind another
+count_rows : (m : Module) (n : ℕ) → n ≡ length (types_of m.types) → first_exceeded (first_rows n m) ≡ first_exceeded (first_rows (length (types_of m.types)) m)
+count_rows m n h = ap (λ k. first_exceeded (first_rows k m)) h
 
--- what is found last
-pub found_last : {E : Type 0} (r : Result (Option (Which × ℕ)) E) (x y : Option (Which × ℕ)) → IfOk r (λ found. found ≡ x) → x ≡ y → IfOk r (λ found. found ≡ y)
-found_last (Ok found) x y h e = h ∙ e
-found_last (Err err) x y h e = tt
+pub counts_none : (m : Module) (n : ℕ) → n ≡ length (types_of m.types) → first_exceeded (first_rows n m) ≡ None → first_exceeded (first_rows (length (types_of m.types)) m) ≡ None
+counts_none m n h e = sym (count_rows m n h) ∙ e
 
--- the rows of depths, where nothing before them is found
-pub last_rows : (m : Module) (types : List (Bor SubType)) (funcs : List Func) → map (λ ty. ty.now) types ≡ types_of m.types → funcs ≡ m.funcs → None ≡ first_exceeded (first_rows (length types) m) → None ≡ first_exceeded (type_rows (map (λ ty. ty.now) types)) → None ≡ first_exceeded (local_rows funcs) → first_exceeded (depth_rows (map (λ ty. ty.now) types)) ≡ exceeded m
-last_rows m types funcs same f h1 h2 h3 =
+pub counts_found : (m : Module) (n : ℕ) (x : Which × ℕ) → n ≡ length (types_of m.types) → first_exceeded (first_rows n m) ≡ Some x → Some x ≡ exceeded m
+counts_found m n x h e =
     let all : List SubType = types_of m.types in
-    let long : length types ≡ length all = sym (length-map types (λ (ty : Bor SubType). ty.now)) ∙ ap length same in
-    let a : first_exceeded (first_rows (length all) m) ≡ None = ap (λ k. first_exceeded (first_rows k m)) (sym long) ∙ sym h1 in
-    let b : first_exceeded (type_rows all) ≡ None = ap (λ t. first_exceeded (type_rows t)) (sym same) ∙ sym h2 in
-    let c : first_exceeded (local_rows m.funcs) ≡ None = ap (λ fs. first_exceeded (local_rows fs)) (sym f) ∙ sym h3 in
-    ap (λ t. first_exceeded (depth_rows t)) same
-    ∙ rows_none (local_rows m.funcs) (depth_rows all) c
+    rows_found (first_rows (length all) m) (type_rows all ++ (local_rows m.funcs ++ depth_rows all)) x (sym (count_rows m n h) ∙ e)
+
+pub types_found : (m : Module) (x : Which × ℕ) → let all : List SubType = types_of m.types in first_exceeded (first_rows (length all) m) ≡ None → first_exceeded (type_rows all) ≡ Some x → Some x ≡ exceeded m
+types_found m x a e =
+    let all : List SubType = types_of m.types in
+    rows_found (type_rows all) (local_rows m.funcs ++ depth_rows all) x e ∙ rows_none (first_rows (length all) m) (type_rows all ++ (local_rows m.funcs ++ depth_rows all)) a
+
+pub locals_found : (m : Module) (x : Which × ℕ) → let all : List SubType = types_of m.types in first_exceeded (first_rows (length all) m) ≡ None → first_exceeded (type_rows all) ≡ None → first_exceeded (local_rows m.funcs) ≡ Some x → Some x ≡ exceeded m
+locals_found m x a b e =
+    let all : List SubType = types_of m.types in
+    rows_found (local_rows m.funcs) (depth_rows all) x e
+    ∙ rows_none (type_rows all) (local_rows m.funcs ++ depth_rows all) b
+    ∙ rows_none (first_rows (length all) m) (type_rows all ++ (local_rows m.funcs ++ depth_rows all)) a
+
+pub last_rows : (m : Module) → let all : List SubType = types_of m.types in first_exceeded (first_rows (length all) m) ≡ None → first_exceeded (type_rows all) ≡ None → first_exceeded (local_rows m.funcs) ≡ None → first_exceeded (depth_rows all) ≡ exceeded m
+last_rows m a b c =
+    let all : List SubType = types_of m.types in
+    rows_none (local_rows m.funcs) (depth_rows all) c
     ∙ rows_none (type_rows all) (local_rows m.funcs ++ depth_rows all) b
     ∙ rows_none (first_rows (length all) m) (type_rows all ++ (local_rows m.funcs ++ depth_rows all)) a

@@ -5,3 +5,4 @@ pub mod ReadsModule
 pub mod Parts
 pub mod Forms
 pub mod Rows
+pub mod Seen

@@ -11,6 +11,7 @@ mod module;
 mod parts;
 mod reader;
 mod sections;
+mod seen;
 #[cfg(test)]
 mod tests;
 

@@ -1,15 +1,15 @@
 //! The limits on the parts of a module, in their order.
-ghost use Rattle.std.specs.Prelude.{◌≡◌, ◌<◌, ◌≤◌, [], ◌∷◌, ℕ, map, length, count_by, sum_by, IfOk, None};
-ghost use Rattle.std.specs.List.{range_with_len};
-ghost use Rattle.gu_types.specs.Depth.{types_in, depth};
-ghost use Rattle.gu_read.specs.Limits.{params_of, results_of, fields_of, is_func, is_global, funcs_in, globals_in};
-ghost use Rattle.gu_read.specs.Limits.{locals_of, first_above, exceeded};
+ghost use Rattle.std.specs.Prelude.{◌≡◌, ◌<◌, ◌≤◌, [], ◌∷◌, ℕ, List, map, length, count_by, sum_by, IfOk, None};
+ghost use Rattle.gu_types.specs.declared.types.SubType.{SubType};
+ghost use Rattle.gu_read.specs.Limits.{is_func, is_global, funcs_in, globals_in};
+ghost use Rattle.gu_read.specs.Limits.{locals_of, first_above, exceeded_or, exceeded};
 ghost use Rattle.gu_read.specs.Rows.{capped, weight, first_rows, type_rows, local_rows, depth_rows};
+ghost use Rattle.gu_read.specs.Seen.{Sees};
 ghost use Rattle.gu_read.specs.Limits as L;
 
+use crate::seen::{Seen, see_types};
 use gu_read_parts::Which;
 use gu_syntax::{Desc, Func, Import, Module};
-use gu_types::{Comp, RecGroup, SubType};
 use rayon::prelude::*;
 use std::alloc::{AllocError, Global};
 use std::thread::Threads;
@@ -27,32 +27,17 @@ pub fn first_exceeded(
 ) -> Result<Exceeded, AllocError>
     ensures { IfOk result (λ found. found ≡ exceeded «module».now) }
 {
-    let flat = types_in_order(alloc, module.types.groups.as_slice())?;
-    let types = flat.as_slice();
-    if let Some(found) = count_limit(types.len(), module) {
+    let seen = see_types(alloc, module.types.groups.as_slice())?;
+    if let Some(found) = count_limit(seen.depths.as_slice().len(), module) {
         return Ok(Some(found));
     }
-    if let Some(found) = type_limit(alloc, types)? {
+    if let Some(found) = type_limit(&seen) {
         return Ok(Some(found));
     }
     if let Some(found) = weighed_limit(rt, alloc, module.funcs.as_slice())? {
         return Ok(Some(found));
     }
-    depth_limit(alloc, types)
-}
-
-/// The types of groups, in order.
-fn types_in_order<'m>(alloc: Global, groups: &'m [RecGroup]) -> Result<Vec<&'m SubType>, AllocError>
-    ensures { IfOk result (λ types. map (λ ty. ty.now) types.items ≡ types_in groups.now) }
-{
-    let mut flat: Vec<&SubType> = Vec::new(alloc);
-    'groups: for group in groups {
-        let types = group.types.as_slice();
-        'types: for ty in types {
-            flat.push(ty)?;
-        }
-    }
-    Ok(flat)
+    Ok(depth_limit(&seen))
 }
 
 /// The limits on how many types, functions and globals there are.
@@ -113,40 +98,28 @@ fn first_above_in(numbers: &[usize], most: usize) -> Option<usize>
 }
 
 /// The limits on the parts of one type.
-fn type_limit(alloc: Global, types: &[&SubType]) -> Result<Exceeded, AllocError>
-    ensures { IfOk result (λ found. found ≡ L.first_exceeded (type_rows (map (λ ty. ty.now) types.now))) }
+fn type_limit(seen: &Seen) -> Exceeded
+    ensures { (types : List SubType) → Sees seen.now types → result ≡ L.first_exceeded (type_rows types) }
 {
-    let mut params = Vec::new(alloc);
-    let mut results = Vec::new(alloc);
-    let mut fields = Vec::new(alloc);
-    'types: for ty in types {
-        let (ty_params, ty_results, ty_fields) = sizes(&ty.comp);
-        params.push(ty_params)?;
-        results.push(ty_results)?;
-        fields.push(ty_fields)?;
-    }
-    if let Some(index) = first_above_in(params.as_slice(), 1_000) {
-        return Ok(Some((Which::Params, index as u64)));
-    }
-    if let Some(index) = first_above_in(results.as_slice(), 1_000) {
-        return Ok(Some((Which::Results, index as u64)));
-    }
-    if let Some(index) = first_above_in(fields.as_slice(), 10_000) {
-        return Ok(Some((Which::Fields, index as u64)));
-    }
-    Ok(None)
+    let fields = or_later(Which::Fields, seen.fields, None);
+    let results = or_later(Which::Results, seen.results, fields);
+    or_later(Which::Params, seen.params, results)
 }
 
-/// How many parameters, results and fields a type has.
-fn sizes(comp: &Comp) -> (usize, usize, usize)
-    ensures params { result.0 ≡ params_of comp.now }
-    ensures results { result.1 ≡ results_of comp.now }
-    ensures fields { result.2 ≡ fields_of comp.now }
+/// The limit on the depth of a type.
+fn depth_limit(seen: &Seen) -> Exceeded
+    ensures { (types : List SubType) → Sees seen.now types → result ≡ L.first_exceeded (depth_rows types) }
 {
-    match comp {
-        Comp::Func { params, results } => (params.as_slice().len(), results.as_slice().len(), 0),
-        Comp::Struct(fields) => (0, 0, fields.as_slice().len()),
-        Comp::Array(_) => (0, 0, 0),
+    or_later(Which::Depth, seen.deeper, None)
+}
+
+/// A limit with the index of what exceeds it first, or where nothing does what comes later.
+fn or_later(which: Which, found: Option<usize>, later: Exceeded) -> Exceeded
+    ensures { result ≡ exceeded_or which found later }
+{
+    match found {
+        Some(index) => Some((which, index as u64)),
+        None => later,
     }
 }
 
@@ -226,39 +199,4 @@ fn locals_up_to(func: &Func) -> usize
         }
     }
     count
-}
-
-/// The limit on the depth of a type.
-fn depth_limit(alloc: Global, types: &[&SubType]) -> Result<Exceeded, AllocError>
-    ensures { IfOk result (λ found. found ≡ L.first_exceeded (depth_rows (map (λ ty. ty.now) types.now))) }
-{
-    let depths = depths_of(alloc, types)?;
-    match first_above_in(depths.as_slice(), 63) {
-        Some(index) => Ok(Some((Which::Depth, index as u64))),
-        None => Ok(None),
-    }
-}
-
-/// The depth of each type.
-fn depths_of(alloc: Global, types: &[&SubType]) -> Result<Vec<usize>, AllocError>
-    ensures { IfOk result (λ depths. depths.items ≡ map (depth (map (λ ty. ty.now) types.now)) (range_with_len 0 (length types.now))) }
-{
-    let mut depths = Vec::new(alloc);
-    'types: for index in 0..types.len() {
-        let depth = depth_of(types, depths.as_slice(), index);
-        depths.push(depth)?;
-    }
-    Ok(depths)
-}
-
-/// The depth of a type, from those of the types before it.
-fn depth_of(types: &[&SubType], depths: &[usize], index: usize) -> usize
-    requires within { index < length types.now }
-    requires before { depths.now ≡ map (depth (map (λ ty. ty.now) types.now)) (range_with_len 0 index) }
-    ensures { result ≡ depth (map (λ ty. ty.now) types.now) index }
-{
-    match types[index].supers.as_slice().first() {
-        Some(above) if (*above as usize) < index => depths[*above as usize] + 1,
-        _ => 0,
-    }
 }

@@ -1,9 +1,7 @@
-use Rattle.std.proofs.Common.{sym, ◌∙◌, map, Some, None}
-use Rattle.gu_read.proofs.Rowing.{depth_numbers, depth_row}
+use Rattle.std.proofs.Common.{ap, ◌∙◌, None}
+use Rattle.gu_read_parts.specs.declared.answer.Which.TheVariants as W
+use Rattle.gu_read.specs.Limits.{exceeded_or}
 use Rattle.gu_read.proofs.limits.depth_limit.Goals as goal
 
-pub returns-in-Some : goal.returns-in-Some
-returns-in-Some c = depth_row (map (λ ty. ty.now) c.args.types.now) (Some c.in-Some.index) (sym (depth_numbers c.args.types.now c.as_slice.result.now (c.as_slice.ensures.value ∙ c.in_ok-depths.ensures)) ∙ sym c.in-Some.ensures)
-
 pub returns : goal.returns
-returns c = depth_row (map (λ ty. ty.now) c.args.types.now) None (sym (depth_numbers c.args.types.now c.as_slice.result.now (c.as_slice.ensures.value ∙ c.in_ok-depths.ensures)) ∙ sym c.in-None.ensures)
+returns c = λ types sees. c.or_later.ensures ∙ ap (λ o. exceeded_or W.Depth o None) sees.deeper
