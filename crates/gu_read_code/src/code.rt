@@ -116,7 +116,7 @@ fn take_off(alloc: Global, pending: &mut Vec<Instr>, from: usize) -> Result<Vec<
 /// The instruction with this code, where the bytes are those behind the code, and so many blocks may
 /// be open inside. The instruction that opens one too many is refused at its code.
 #[cycle(nesting)]
-#[inline(never)]
+#[inline(always)]
 fn read_instr<'a>(
     alloc: Global,
     room: u32,
@@ -140,7 +140,7 @@ fn read_instr<'a>(
 
 /// A block.
 #[cycle(nesting)]
-#[inline(never)]
+#[inline(always)]
 fn read_block<'a>(
     alloc: Global,
     room: u32,
@@ -164,7 +164,7 @@ fn read_block<'a>(
 
 /// A loop.
 #[cycle(nesting)]
-#[inline(never)]
+#[inline(always)]
 fn read_loop<'a>(
     alloc: Global,
     room: u32,

@@ -13,6 +13,7 @@ use std::alloc::{AllocError, Global};
 impl State {
     /// Enters a block, with its parameters alone. What stood round it is handed out. `AllocError`
     /// only where memory is refused.
+    #[inline(always)]
     pub(crate) fn open(&mut self, alloc: Global, params: &[ValType]) -> Result<Outer, AllocError>
         ensures opened { OnOk result (self.new ≡ body.opened params.now self.old) }
         ensures types { IfOk result (λ outer. outer_types outer ≡ self.old.types) }
@@ -24,6 +25,7 @@ impl State {
     }
 
     /// Whether code ends with operands of these types and no more.
+    #[inline(always)]
     pub(crate) fn ends_with(&mut self, env: &Env<'_>, results: &[ValType]) -> bool
         ensures ends { result ≡ is_some (typing.ends_with env.now.types.now results.now (Some self.old) (Some self.old)) }
         ensures set { result ≡ true → self.new.set ≡ self.old.set }

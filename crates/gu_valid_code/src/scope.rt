@@ -90,6 +90,7 @@ impl<'a> Scope<'a> {
     }
 
     /// Enters a block with a label. `AllocError` only where memory is refused.
+    #[inline(always)]
     pub(crate) fn enter(&mut self, label: &'a [ValType]) -> Result<(), AllocError>
         ensures { OnOk result (self.new ≡ typing.inside self.old label.now) }
     {
@@ -98,6 +99,7 @@ impl<'a> Scope<'a> {
     }
 
     /// Leaves the innermost block.
+    #[inline(always)]
     pub(crate) fn leave(&mut self)
         ensures { self.new ≡ left self.old }
     {

@@ -164,7 +164,16 @@ impl State {
     }
 
     /// Takes operands of types in order, the last of which is on top. Whether there are such.
+    #[inline(always)]
     pub(crate) fn pop_all(&mut self, env: &Env<'_>, wants: &[ValType]) -> bool
+        ensures { Did result (typing.pops env.now.types.now wants.now self.old) self.new }
+    {
+        wants.is_empty() || self.pop_each(env, wants)
+    }
+
+    /// The same, one operand after the other.
+    #[inline(never)]
+    fn pop_each(&mut self, env: &Env<'_>, wants: &[ValType]) -> bool
         ensures { Did result (typing.pops env.now.types.now wants.now self.old) self.new }
     {
         let mut left = wants;
@@ -232,6 +241,7 @@ impl State {
     }
 
     /// Puts operands of types in order. `AllocError` only where memory is refused.
+    #[inline(always)]
     pub(crate) fn push_all(&mut self, found: &[ValType]) -> Result<(), AllocError>
         ensures { OnOk result (typing.pushes found.now self.old ≡ Some self.new) }
     {
@@ -250,14 +260,32 @@ impl State {
     }
 
     /// Whether there are no operands, whatever may stand below them.
+    #[inline(always)]
     pub(crate) fn has_none(&self) -> bool
         ensures { result ≡ is_nothing self.now.types }
     {
         self.operands.is_empty()
     }
 
-    /// Takes all operands, and what may stand below them.
+    /// Takes all operands, and what may stand below them. Where there are none, their list stays.
+    #[inline(always)]
     pub(crate) fn take_all(&mut self, alloc: Global) -> Outer
+        ensures types { outer_types result ≡ self.old.types }
+        ensures any { result.any ≡ self.old.any }
+        ensures left { self.new ≡ record self.old { types = []; any = false } }
+    {
+        if self.operands.is_empty() {
+            return Outer {
+                operands: Vec::new(alloc),
+                any: replace(&mut self.any, false),
+            };
+        }
+        self.hand_out(alloc)
+    }
+
+    /// Hands the list of operands out, for a list that a block is done with.
+    #[inline(never)]
+    fn hand_out(&mut self, alloc: Global) -> Outer
         ensures types { outer_types result ≡ self.old.types }
         ensures any { result.any ≡ self.old.any }
         ensures left { self.new ≡ record self.old { types = []; any = false } }
@@ -282,7 +310,21 @@ impl State {
     }
 
     /// Leaves a block, to what stood round it.
+    #[inline(always)]
     pub(crate) fn close(&mut self, outer: Outer)
+        ensures { self.new ≡ closed outer self.old }
+    {
+        if outer.operands.is_empty() {
+            self.operands.clear();
+            self.any = outer.any;
+        } else {
+            self.take_back(outer);
+        }
+    }
+
+    /// Takes a list of operands back, and puts that of the block aside.
+    #[inline(never)]
+    fn take_back(&mut self, outer: Outer)
         ensures { self.new ≡ closed outer self.old }
     {
         let Outer { operands, any } = outer;
@@ -307,6 +349,7 @@ impl State {
     }
 
     /// Forgets that these locals were set.
+    #[inline(always)]
     pub(crate) fn forget(&mut self, here: Vec<u32>)
         ensures { self.new ≡ before here.items self.old }
     {

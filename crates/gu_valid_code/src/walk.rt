@@ -21,7 +21,22 @@ use std::alloc::{AllocError, Global};
 use std::slice::from_ref;
 
 /// The function type of a block type, or `None` where it is not valid.
+#[inline(always)]
 fn signature_of<'a>(env: &Env<'a>, ty: &'a BlockType) -> Option<Signature<'a>>
+    ensures { option_map function_of result ≡ around.type_of_block env.now.types.now ty.now }
+{
+    match ty {
+        BlockType::Empty => Some(Signature {
+            params: &[],
+            results: &[],
+        }),
+        _ => any_signature_of(env, ty),
+    }
+}
+
+/// The same, whatever type it is.
+#[inline(never)]
+fn any_signature_of<'a>(env: &Env<'a>, ty: &'a BlockType) -> Option<Signature<'a>>
     ensures { option_map function_of result ≡ around.type_of_block env.now.types.now ty.now }
 {
     match ty {
