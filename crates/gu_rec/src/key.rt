@@ -1,7 +1,6 @@
 //! Keys of closed recursion groups: a group with a number in the place of each index in it. No key
 //! is ever made: it is hashed and compared as it would be.
 ghost use Rattle.std.specs.Prelude.{◌≡◌, ◌+◌, ◌<◌, ◌^◌, ◌++◌, IfOk, OnOk, map, length};
-ghost use Rattle.std.specs.Cmp.Lexicographic.{pointwise};
 ghost use Rattle.gu_types.specs.Depth.{types_of};
 ghost use Rattle.gu_rec.specs.Validity.{IndicesHold};
 ghost use Rattle.gu_rec.specs.Names.{rename_heap, rename_val, rename_storage, rename_field, rename_comp, rename};
