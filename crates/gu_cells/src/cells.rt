@@ -25,7 +25,7 @@ use std::snapshot::Snapshot;
 #[derive(Drop)]
 pub struct Cells<'a, N: Ceilings> {
     table: Table<u64, View, Sizes, Order<N>, Global>,
-    facts: &'a Facts,
+    facts: &'a Facts<'a>,
     longs: &'a Longs,
     sizes: Sizes,
     alloc: Global,
@@ -57,7 +57,7 @@ impl<'a, N: Ceilings> Cells<'a, N> {
     /// Cells that are all empty, and the first seat, before any other is split off it.
     fn make(
         alloc: Global,
-        facts: &'a Facts,
+        facts: &'a Facts<'a>,
         longs: &'a Longs,
         sizes: Sizes,
     ) -> Result<(Cells<'a, N>, Seat<u64, View>), AllocError>
@@ -99,7 +99,7 @@ impl<'a, N: Ceilings> Cells<'a, N> {
     /// has number k, and no call changes it. `AllocError` only where memory is refused.
     pub fn open(
         alloc: Global,
-        facts: &'a Facts,
+        facts: &'a Facts<'a>,
         longs: &'a Longs,
         cells: usize,
         seats: u32,

@@ -41,7 +41,7 @@ pub(crate) struct Facts<'m> {
 fn env_of<'m>(
     alloc: Global,
     m: &'m Module,
-    types: &'m Types,
+    types: &'m Types<'m>,
     bodies: &[&Body],
 ) -> Result<Env<'m>, AllocError>
     requires small { IsCounted m.now }
@@ -69,7 +69,7 @@ impl<'m> Facts<'m> {
     pub(crate) fn new(
         alloc: Global,
         m: &'m Module,
-        types: &'m Types,
+        types: &'m Types<'m>,
     ) -> Result<Facts<'m>, AllocError>
         requires small { IsCounted m.now }
         requires types { types.now ≡ m.now.types }
