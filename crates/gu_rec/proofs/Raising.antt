@@ -1,5 +1,5 @@
--- How the heights of types grow, one line after another.
-use Rattle.std.proofs.Common.{◌≡◌, ◌≢◌, ℕ, suc, ◌+◌, ◌<◌, ◌≤◌, Bool, true, false, ◌||◌, ◌⊎◌, List, length, get_or, set, nat_eq, replicate, if◌then◌else◌, Option, Some, None, option_map, is_some, refl, ap, ap₂, sym, ◌∙◌, subst, inl, inr, arith}
+-- How the heights of types grow, from the last type to the first.
+use Rattle.std.proofs.Common.{◌≡◌, ◌≢◌, ℕ, suc, ◌+◌, ◌<◌, ◌≤◌, Bool, true, false, ◌||◌, ◌⊎◌, List, length, get_or, set, nat_eq, replicate, if◌then◌else◌, Option, Some, None, option_map, is_some, unwrap_or, refl, ap, sym, ◌∙◌, subst, inl, inr, arith}
 use Rattle.std.proofs.lemmas.Bool.{cases_lt}
 use Rattle.std.proofs.lemmas.Option.{slice_get_cases, get_or_from_slice_get}
 use Rattle.std.proofs.lemmas.List.{get_or-set_same, get_or-set_other, length-replicate, get_or-replicate}
@@ -10,17 +10,18 @@ use Rattle.gu_types.specs.Depth.{types_of, parent, depth}
 use Rattle.gu_rec.specs.declared.types.Entry.{Entry}
 use Rattle.gu_rec.specs.Closed.{SameType}
 use Rattle.gu_rec.specs.Tests.{same_type}
-use Rattle.gu_rec.specs.Sub.{kind_of, abs_line, line, same_heap}
+use Rattle.gu_rec.specs.Sub.{kind_of, abs_line, line, same_heap, distance}
 use Rattle.gu_rec.specs.Table.{IsTable, place}
-use Rattle.gu_rec.specs.Heights.{far, HeightsTo, HeightsAre, Raise}
+use Rattle.gu_rec.specs.Heights.{far, HeightsFrom, HeightsAre, Raise}
 use Rattle.gu_rec.specs.Validity.{IndicesHold}
 use Rattle.gu_rec.proofs.Same.{same_type_decides, numbers_tell, tells_decides}
 use Rattle.gu_rec.proofs.Seats.{same_there}
 use Rattle.gu_rec.proofs.Lines.{along, parent_below, depth_root, depth_step}
-use Rattle.gu_rec.proofs.Order.{there, on, or_right, idx_steps, idx_root, lines_pass, same_root, same_parent}
+use Rattle.gu_rec.proofs.Order.{there, on, either, or_right, idx_steps, idx_root, lines_pass, same_root, same_parent}
 use Rattle.gu_rec.proofs.Decided.{own_on}
 use Rattle.gu_rec.proofs.Antisymmetric.{idx_line, same_first}
 use Rattle.gu_rec.proofs.Places.{same_is, index_root, index_step, any_is}
+use Rattle.gu_rec.proofs.Queries.{distance_is}
 use Rattle.gu_rec.proofs.Heights.{far_is, height_is}
 
 not_above : (list : TypeList) (t : ℕ) (k : Abs) → on list (H.Idx t) (H.Abs k) ≡ false
@@ -79,12 +80,23 @@ module _ (list : TypeList) (hold : IndicesHold list) where
       by_place None f = let g : false ≡ true = sym (ap is_some f) ∙ (sym (any_is (same_heap list (H.Idx t)) (line list (H.Idx i))) ∙ e) in cc
       by_place (Some k) f = let a = far_is list (H.Idx t) (H.Idx i) (Some k) (sym f) in let d = place_deep t h i k f in omega arith
 
+  on_distance : (t i n : ℕ) → t < length (types_of list) → on list (H.Idx t) (H.Idx i) ≡ true → n + depth (types_of list) t ≡ depth (types_of list) i → distance list (H.Idx t) (H.Idx i) ≡ Some n
+  on_distance t i n h e d = distance_is list (H.Idx t) (H.Idx i) ∙ by_place (place (same_heap list (H.Idx t)) (line list (H.Idx i))) refl
+    where
+      by_place : (o : Option ℕ) → place (same_heap list (H.Idx t)) (line list (H.Idx i)) ≡ o → o ≡ Some n
+      by_place None f = let g : false ≡ true = sym (ap is_some f) ∙ (sym (any_is (same_heap list (H.Idx t)) (line list (H.Idx i))) ∙ e) in cc
+      by_place (Some k) f = let a = place_deep t h i k f in ap (λ x. Some x) (let g : k ≡ n = omega arith in g)
+
   far_off : (t i : ℕ) → on list (H.Idx t) (H.Idx i) ≡ false → far list (H.Idx t) (H.Idx i) ≡ 0
   far_off t i e = by_place (place (same_heap list (H.Idx t)) (line list (H.Idx i))) refl
     where
       by_place : (o : Option ℕ) → place (same_heap list (H.Idx t)) (line list (H.Idx i)) ≡ o → far list (H.Idx t) (H.Idx i) ≡ 0
       by_place None f = far_is list (H.Idx t) (H.Idx i) None (sym f)
       by_place (Some k) f = let g : true ≡ false = sym (ap is_some f) ∙ (sym (any_is (same_heap list (H.Idx t)) (line list (H.Idx i))) ∙ e) in cc
+
+own_type : (list : TypeList) (p : ℕ) → SameType list p list p
+unfolding SameType
+own_type list p = refl
 
 pub raise_none : (heights : List ℕ) (own steps : ℕ) → steps ≤ get_or heights own 0 → Raise heights heights own steps
 raise_none heights own steps h = record { long = refl; more = omega arith; enough = h; one_of = inl refl; others = λ j d. refl }
@@ -94,140 +106,180 @@ raise_set heights own steps l h n =
     let e = get_or-set_same heights own steps 0 l in
     record { long = n; more = omega arith; enough = omega arith; one_of = inr e; others = λ j d. get_or-set_other heights own j steps 0 d }
 
--- the walk up the line of a type stands at one of its supertypes, so many steps up
-pub record Raising (list : TypeList) (least heights : List ℕ) (from at steps : ℕ) : Type 0 where
-  pub to : HeightsTo list least heights from
-  pub past : (t : ℕ) → t < length (types_of list) → on list (H.Idx t) (H.Idx at) ≡ false → far list (H.Idx t) (H.Idx from) ≤ get_or heights (get_or least t 0) 0
-  pub on_line : on list (H.Idx at) (H.Idx from) ≡ true
-  pub deep : steps + depth (types_of list) at ≡ depth (types_of list) from
-
-pub raising_starts : (list : TypeList) (least heights : List ℕ) (from : ℕ) → IndicesHold list → HeightsTo list least heights from → Raising list least heights from from 0
-raising_starts list least heights from hold to = record {
-  to = to;
-  past = λ t h e. let f = far_off list hold t from e in omega arith;
-  on_line = own_on list (H.Idx from);
-  deep = omega arith;
-}
-
-module _ {list : TypeList} {least : List ℕ} {entries : List Entry} (table : IsTable list least entries) {heights new : List ℕ} {from at steps own : ℕ} (so : Raising list least heights from at steps) (raise : Raise heights new own steps) (own_is : own ≡ get_or least at 0) (in_range : at < length (types_of list)) (from_in : from < length (types_of list)) where
-  abbrev Tested : ℕ → Bool → Type 0
-  Tested t b = same_type list t list at ≡ b
-
-  same_own : (t : ℕ) → t < length (types_of list) → same_type list t list at ≡ nat_eq (get_or least t 0) own
-  same_own t h =
-      let l = table.least_are.long in
-      same_is list least table.least_are t at (omega arith) (omega arith) ∙ ap (nat_eq (get_or least t 0)) (sym own_is)
-
-  is_own : (t : ℕ) → t < length (types_of list) → Tested t true → get_or least t 0 ≡ own
-  is_own t h e = (tells_decides numbers_tell (get_or least t 0) own).0 (sym (same_own t h) ∙ e)
-
-  not_own : (t : ℕ) → t < length (types_of list) → Tested t false → get_or least t 0 ≢ own
-  not_own t h e = λ f. let g : false ≡ true = sym e ∙ (same_own t h ∙ (tells_decides numbers_tell (get_or least t 0) own).1 f) in cc
-
-  others_stay : (t : ℕ) → t < length (types_of list) → Tested t false → get_or new (get_or least t 0) 0 ≡ get_or heights (get_or least t 0) 0
-  others_stay t h e = raise.others (get_or least t 0) (not_own t h e)
-
-  -- the distance to each of the same types
-  far_here : (t : ℕ) → t < length (types_of list) → Tested t true → far list (H.Idx t) (H.Idx from) ≡ steps
-  far_here t h e =
-      let s : SameType list t list at = (same_type_decides list list t at).0 e in
-      let o : on list (H.Idx t) (H.Idx from) ≡ true = same_first list t at s (line list (H.Idx from)) ∙ so.on_line in
-      let f = far_on list table.hold t from h o in
-      let d = same_depth list table.hold t at h s in
-      let n = so.deep in
-      omega arith
-
-  far_fits : (t : ℕ) → t < length (types_of list) → Tested t true → far list (H.Idx t) (H.Idx from) ≤ get_or new (get_or least t 0) 0
-  far_fits t h e =
-      let f = far_here t h e in
-      let g : get_or new (get_or least t 0) 0 ≡ get_or new own 0 = ap (λ n. get_or new n 0) (is_own t h e) in
-      let m = raise.enough in
-      omega arith
-
-  grows : (t : ℕ) → t < length (types_of list) → get_or heights (get_or least t 0) 0 ≤ get_or new (get_or least t 0) 0
-  grows t h = by_test (same_type list t list at) refl
-    where
-      by_test : (b : Bool) → Tested t b → get_or heights (get_or least t 0) 0 ≤ get_or new (get_or least t 0) 0
-      by_test true e = subst (λ n. get_or heights n 0 ≤ get_or new n 0) (sym (is_own t h e)) raise.more
-      by_test false e = let o = others_stay t h e in omega arith
-
-  abbrev Met : List ℕ → ℕ → Type 0
-  Met xs t = (get_or xs (get_or least t 0) 0 ≡ 0) ⊎ ((i : ℕ) × (i < length (types_of list)) × (far list (H.Idx t) (H.Idx i) ≡ get_or xs (get_or least t 0) 0))
-
-  meets : (t m : ℕ) → get_or new (get_or least t 0) 0 ≡ m → (m ≡ 0) ⊎ ((i : ℕ) × (i < length (types_of list)) × (far list (H.Idx t) (H.Idx i) ≡ m)) → Met new t
-  meets t m e w = subst (λ m. (m ≡ 0) ⊎ ((i : ℕ) × (i < length (types_of list)) × (far list (H.Idx t) (H.Idx i) ≡ m))) (sym e) w
-
-  still_met : (t : ℕ) → t < length (types_of list) → Met new t
-  still_met t h = by_test (same_type list t list at) refl
-    where
-      by_one : Tested t true → (get_or new own 0 ≡ get_or heights own 0) ⊎ (get_or new own 0 ≡ steps) → Met new t
-      by_one e (inl f) = meets t (get_or heights (get_or least t 0) 0) (let o = is_own t h e in ap (λ n. get_or new n 0) o ∙ (f ∙ ap (λ n. get_or heights n 0) (sym o))) (so.to.met t h)
-      by_one e (inr f) = meets t steps (ap (λ n. get_or new n 0) (is_own t h e) ∙ f) (inr (from, from_in, far_here t h e))
-
-      by_test : (b : Bool) → Tested t b → Met new t
-      by_test true e = by_one e raise.one_of
-      by_test false e = meets t (get_or heights (get_or least t 0) 0) (others_stay t h e) (so.to.met t h)
-
-  still_to : HeightsTo list least new from
-  still_to = record {
-    long = raise.long ∙ so.to.long;
-    each = λ t i h k. let e = so.to.each t i h k in let g = grows t h in omega arith;
-    met = still_met;
-  }
-
-  pub raising_on : (p : ℕ) → parent (types_of list) at ≡ Some p → Raising list least new from p (steps + 1)
-  raising_on p e = record {
-    to = still_to;
-    past = λ t h f. by_test t h f (same_type list t list at) refl;
-    on_line = lines_pass list table.hold (H.Idx from) (H.Idx at) (H.Idx p) from_in so.on_line ((idx_steps list at p e).is (H.Idx p) ∙ or_right (same_heap list (H.Idx p) (H.Idx at)) (on list (H.Idx p) (H.Idx p)) (own_on list (H.Idx p)));
-    deep = let d = depth_step (types_of list) at p e in let n = so.deep in omega arith;
-  }
-    where
-      by_test : (t : ℕ) → t < length (types_of list) → on list (H.Idx t) (H.Idx p) ≡ false → (b : Bool) → Tested t b → far list (H.Idx t) (H.Idx from) ≤ get_or new (get_or least t 0) 0
-      by_test t h f true s = far_fits t h s
-      by_test t h f false s =
-          let o : on list (H.Idx t) (H.Idx at) ≡ false = (idx_steps list at p e).is (H.Idx t) ∙ ap₂ (λ a b. a || b) s f in
-          let l = so.past t h o in
-          let g = grows t h in
-          omega arith
-
-  pub raising_ends : parent (types_of list) at ≡ None → HeightsTo list least new (from + 1)
-  raising_ends e = record {
-    long = raise.long ∙ so.to.long;
-    each = λ t i h k. elim (cases_lt i from) as (λ _. far list (H.Idx t) (H.Idx i) ≤ get_or new (get_or least t 0) 0) [
-      | inl l ↦ let x = so.to.each t i h l in let g = grows t h in omega arith
-      | inr l ↦ let n : i ≡ from = omega arith in subst (λ m. far list (H.Idx t) (H.Idx m) ≤ get_or new (get_or least t 0) 0) (sym n) (by_test t h (same_type list t list at) refl)
-    ];
-    met = still_met;
-  }
-    where
-      by_test : (t : ℕ) → t < length (types_of list) → (b : Bool) → Tested t b → far list (H.Idx t) (H.Idx from) ≤ get_or new (get_or least t 0) 0
-      by_test t h true s = far_fits t h s
-      by_test t h false s =
-          let a = there list at in_range in
-          let o : on list (H.Idx t) (H.Idx at) ≡ false = (idx_root list at a.type a.found e).is (H.Idx t) ∙ ap₂ (λ a b. a || b) s (not_above list t (kind_of a.type.comp)) in
-          let l = so.past t h o in
-          let g = grows t h in
-          omega arith
-
-pub heights_start : (list : TypeList) (least : List ℕ) (n : ℕ) → n ≡ length least → ((t : ℕ) → t < length (types_of list) → get_or least t 0 < n) → HeightsTo list least (replicate n 0) 0
-heights_start list least n e below = record {
-  long = length-replicate n 0 ∙ e;
-  each = λ t i h k. absurd (omega arith);
-  met = λ t h. inl (get_or-replicate n (get_or least t 0) 0 0 (below t h));
-}
-
-pub heights_end : (list : TypeList) (least heights : List ℕ) (count : ℕ) → HeightsTo list least heights count → length (types_of list) ≤ count → HeightsAre list least heights
-heights_end list least heights count to n = record {
-  long = to.long;
-  at = λ t h. height_is list (H.Idx t) count (get_or heights (get_or least t 0) 0) (record { start = omega arith; each = λ i k. to.each t i h k; met = to.met t h }) n;
-}
-
 pub own_below : {list : TypeList} {least : List ℕ} {entries : List Entry} → IsTable list least entries → (at : ℕ) → at < length least → get_or least at 0 < length least
 own_below {list = list} table at h =
     let l = table.least_are.long in
     let b = same_there list at _ (omega arith) (table.least_are.same at h) in
     omega arith
+
+module _ {list : TypeList} {least : List ℕ} {entries : List Entry} (table : IsTable list least entries) where
+  same_number : (t p : ℕ) → t < length (types_of list) → p < length (types_of list) → same_type list t list p ≡ nat_eq (get_or least t 0) (get_or least p 0)
+  same_number t p h k = let l = table.least_are.long in same_is list least table.least_are t p (omega arith) (omega arith)
+
+  one_number : (t p : ℕ) → t < length (types_of list) → p < length (types_of list) → same_type list t list p ≡ true → get_or least t 0 ≡ get_or least p 0
+  one_number t p h k e = (tells_decides numbers_tell (get_or least t 0) (get_or least p 0)).0 (sym (same_number t p h k) ∙ e)
+
+  other_number : (t p : ℕ) → t < length (types_of list) → p < length (types_of list) → same_type list t list p ≡ false → get_or least t 0 ≢ get_or least p 0
+  other_number t p h k e = λ f. let g : false ≡ true = sym e ∙ (same_number t p h k ∙ (tells_decides numbers_tell (get_or least t 0) (get_or least p 0)).1 f) in cc
+
+  least_below : (p : ℕ) → p < length (types_of list) → get_or least p 0 ≤ p
+  least_below p h = let l = table.least_are.long in table.least_are.least p p (omega arith) (own_type list p)
+
+  abbrev Met : List ℕ → ℕ → Type 0
+  Met xs t = (i : ℕ) × (i < length (types_of list)) × (distance list (H.Idx t) (H.Idx i) ≡ Some (get_or xs (get_or least t 0) 0))
+
+  meets : (heights new : List ℕ) (t : ℕ) → get_or new (get_or least t 0) 0 ≡ get_or heights (get_or least t 0) 0 → Met heights t → Met new t
+  meets heights new t e m = (m.0, m.1, m.2 ∙ ap (λ n. Some n) (sym e))
+
+  pub low_height : {heights : List ℕ} {from : ℕ} → HeightsFrom list least heights from → (t : ℕ) → t < length (types_of list) → get_or least t 0 ≡ t → get_or heights t 0 ≤ 63
+  low_height {heights = heights} to t h own =
+      let m = to.met t h in
+      let d = place_deep list table.hold t h m.0 (get_or heights (get_or least t 0) 0) (sym (distance_is list (H.Idx t) (H.Idx m.0)) ∙ m.2) in
+      let s = table.shallow m.0 in
+      let e : get_or heights (get_or least t 0) 0 ≡ get_or heights t 0 = ap (λ n. get_or heights n 0) own in
+      omega arith
+
+  module _ {heights new : List ℕ} {from p own : ℕ} (to : HeightsFrom list least heights (from + 1)) (raise : Raise heights new own (get_or heights from 0 + 1)) (own_is : own ≡ get_or least p 0) (from_in : from < length (types_of list)) (from_own : get_or least from 0 ≡ from) (above : parent (types_of list) from ≡ Some p) where
+    own_before : own < from
+    own_before = let b = parent_below (types_of list) from p above in let l = least_below p (omega arith) in omega arith
+
+    grows : (j : ℕ) → get_or heights j 0 ≤ get_or new j 0
+    grows j = by_test (nat_eq j own) refl
+      where
+        by_test : (b : Bool) → nat_eq j own ≡ b → get_or heights j 0 ≤ get_or new j 0
+        by_test true e = subst (λ n. get_or heights n 0 ≤ get_or new n 0) (sym ((tells_decides numbers_tell j own).0 e)) raise.more
+        by_test false e = let o = raise.others j (λ f. let g : false ≡ true = sym e ∙ (tells_decides numbers_tell j own).1 f in cc) in omega arith
+
+    stays : (k : ℕ) → from ≤ k → get_or new k 0 ≡ get_or heights k 0
+    stays k h = raise.others k (λ e. let b = own_before in absurd (omega arith))
+
+    rises : (k q : ℕ) → from ≤ k → k < length (types_of list) → get_or least k 0 ≡ k → parent (types_of list) k ≡ Some q → get_or new k 0 < get_or new (get_or least q 0) 0
+    rises k q f h o e =
+        let s = stays k f in
+        elim (cases_lt from k) as (λ _. get_or new k 0 < get_or new (get_or least q 0) 0) [
+          | inl l ↦ let r = to.rise k q (omega arith) h o e in let g = grows (get_or least q 0) in omega arith
+          | inr l ↦
+              let n : k ≡ from = omega arith in
+              let m : Some q ≡ Some p = sym e ∙ (ap (parent (types_of list)) n ∙ above) in
+              let u : q ≡ p = cc in
+              let v : get_or new (get_or least q 0) 0 ≡ get_or new own 0 = ap (λ x. get_or new (get_or least x 0) 0) u ∙ ap (λ x. get_or new x 0) (sym own_is) in
+              let w : get_or heights k 0 ≡ get_or heights from 0 = ap (λ x. get_or heights x 0) n in
+              let r = raise.enough in
+              omega arith
+        ]
+
+    -- one step more down to the same type
+    met_below : (t : ℕ) → t < length (types_of list) → same_type list t list p ≡ true → (i : ℕ) × (i < length (types_of list)) × (distance list (H.Idx t) (H.Idx i) ≡ Some (get_or heights from 0 + 1))
+    met_below t h e =
+        let s : SameType list t list p = (same_type_decides list list t p).0 e in
+        let m = to.met from from_in in
+        let n : get_or heights (get_or least from 0) 0 ≡ get_or heights from 0 = ap (λ x. get_or heights x 0) from_own in
+        let f : place (same_heap list (H.Idx from)) (line list (H.Idx m.0)) ≡ Some (get_or heights from 0) = sym (distance_is list (H.Idx from) (H.Idx m.0)) ∙ (m.2 ∙ ap (λ x. Some x) n) in
+        let on_from : on list (H.Idx from) (H.Idx m.0) ≡ true = any_is (same_heap list (H.Idx from)) (line list (H.Idx m.0)) ∙ ap is_some f in
+        let on_line : on list (H.Idx t) (H.Idx from) ≡ true =
+        same_first list t p s (line list (H.Idx from)) ∙ ((idx_steps list from p above).is (H.Idx p) ∙ or_right (same_heap list (H.Idx p) (H.Idx from)) (on list (H.Idx p) (H.Idx p)) (own_on list (H.Idx p))) in
+        let d = place_deep list table.hold from from_in m.0 (get_or heights from 0) f in
+        let u = depth_step (types_of list) from p above in
+        let v = same_depth list table.hold t p h s in
+        (m.0, m.1, on_distance list table.hold t m.0 (get_or heights from 0 + 1) h (lines_pass list table.hold (H.Idx m.0) (H.Idx from) (H.Idx t) m.1 on_from on_line) (omega arith))
+
+    still_met : (t : ℕ) → t < length (types_of list) → Met new t
+    still_met t h = by_test (same_type list t list p) refl
+      where
+        in_range : p < length (types_of list)
+        in_range = let b = parent_below (types_of list) from p above in omega arith
+
+        is_own : same_type list t list p ≡ true → get_or least t 0 ≡ own
+        is_own e = one_number t p h in_range e ∙ sym own_is
+
+        by_one : same_type list t list p ≡ true → (get_or new own 0 ≡ get_or heights own 0) ⊎ (get_or new own 0 ≡ get_or heights from 0 + 1) → Met new t
+        by_one e (inl f) = meets heights new t (let o = is_own e in ap (λ n. get_or new n 0) o ∙ (f ∙ ap (λ n. get_or heights n 0) (sym o))) (to.met t h)
+        by_one e (inr f) = let m = met_below t h e in (m.0, m.1, m.2 ∙ ap (λ n. Some n) (sym (ap (λ n. get_or new n 0) (is_own e) ∙ f)))
+
+        by_test : (b : Bool) → same_type list t list p ≡ b → Met new t
+        by_test true e = by_one e raise.one_of
+        by_test false e = meets heights new t (raise.others (get_or least t 0) (λ f. other_number t p h in_range e (f ∙ own_is))) (to.met t h)
+
+    pub handed_on : HeightsFrom list least new from
+    handed_on = record { long = raise.long ∙ to.long; rise = rises; met = still_met }
+
+  module _ {heights : List ℕ} (to : HeightsFrom list least heights 0) where
+    -- from each type on to its supertype, the heights rise
+    rise_on : (k p : ℕ) → k < length (types_of list) → parent (types_of list) k ≡ Some p → get_or heights (get_or least k 0) 0 < get_or heights (get_or least p 0) 0
+    rise_on k p h e =
+        let l = table.least_are.long in
+        let b = parent_below (types_of list) k p e in
+        let c : ℕ = get_or least k 0 in
+        let s : SameType list k list c = table.least_are.same k (omega arith) in
+        let c_in : c < length (types_of list) = same_there list k c h s in
+        let q = same_parent list table.hold k c p h s e in
+        let q_in : q.other < length (types_of list) = same_there list p q.other (omega arith) q.same in
+        let o : c ≡ get_or least c 0 = one_number k c h c_in ((same_type_decides list list k c).1 s) in
+        let r = to.rise c q.other (omega arith) c_in (sym o) q.is in
+        let m : get_or least p 0 ≡ get_or least q.other 0 = one_number p q.other (omega arith) q_in ((same_type_decides list list p q.other).1 q.same) in
+        subst (λ n. get_or heights c 0 < get_or heights n 0) (sym m) r
+
+    abbrev High : ℕ → Type 0
+    High i = (t : ℕ) → i < length (types_of list) → t < length (types_of list) → on list (H.Idx t) (H.Idx i) ≡ true → depth (types_of list) i + get_or heights (get_or least i 0) 0 ≤ get_or heights (get_or least t 0) 0 + depth (types_of list) t
+
+    high_here : (t i : ℕ) → i < length (types_of list) → t < length (types_of list) → same_type list t list i ≡ true → depth (types_of list) i + get_or heights (get_or least i 0) 0 ≤ get_or heights (get_or least t 0) 0 + depth (types_of list) t
+    high_here t i h k e =
+        let d = same_depth list table.hold t i k ((same_type_decides list list t i).0 e) in
+        let n : get_or heights (get_or least t 0) 0 ≡ get_or heights (get_or least i 0) 0 = ap (λ x. get_or heights x 0) (one_number t i k h e) in
+        omega arith
+
+    high : (i : ℕ) → High i
+    high = along (types_of list) High at_root at_step
+      where
+        at_root : (i : ℕ) → parent (types_of list) i ≡ None → High i
+        at_root i e t h k o =
+            let a = there list i h in
+            high_here t i h k (only (same_type list t list i) (sym (ap (λ b. same_type list t list i || b) (not_above list t (kind_of a.type.comp))) ∙ (sym ((idx_root list i a.type a.found e).is (H.Idx t)) ∙ o)))
+          where
+            only : (b : Bool) → (b || false) ≡ true → b ≡ true
+            only true f = refl
+            only false f = f
+
+        at_step : (i p : ℕ) → parent (types_of list) i ≡ Some p → High p → High i
+        at_step i p e next t h k o =
+            elim (either (same_type list t list i) (on list (H.Idx t) (H.Idx p)) (sym ((idx_steps list i p e).is (H.Idx t)) ∙ o)) as (λ _. depth (types_of list) i + get_or heights (get_or least i 0) 0 ≤ get_or heights (get_or least t 0) 0 + depth (types_of list) t) [
+              | inl s ↦ high_here t i h k s
+              | inr s ↦
+                  let b = parent_below (types_of list) i p e in
+                  let n = next t (omega arith) k s in
+                  let r = rise_on i p h e in
+                  let d = depth_step (types_of list) i p e in
+                  omega arith
+            ]
+
+    far_below : (t i : ℕ) → t < length (types_of list) → i < length (types_of list) → far list (H.Idx t) (H.Idx i) ≤ get_or heights (get_or least t 0) 0
+    far_below t i h k = by_test (on list (H.Idx t) (H.Idx i)) refl
+      where
+        by_test : (b : Bool) → on list (H.Idx t) (H.Idx i) ≡ b → far list (H.Idx t) (H.Idx i) ≤ get_or heights (get_or least t 0) 0
+        by_test true e = let f = far_on list table.hold t i h e in let u = high i t k h e in omega arith
+        by_test false e = let f = far_off list table.hold t i e in omega arith
+
+    pub heights_end : HeightsAre list least heights
+    heights_end = record {
+      long = to.long;
+      at = λ t h.
+          let m = to.met t h in
+          height_is list (H.Idx t) (length (types_of list)) (get_or heights (get_or least t 0) 0) (record { start = omega arith; each = λ i k. far_below t i h k; met = inr (m.0, m.1, ap (λ o. unwrap_or o 0) m.2) }) (omega arith);
+    }
+
+pub heights_start : {list : TypeList} {least : List ℕ} {entries : List Entry} → IsTable list least entries → (n : ℕ) → n ≡ length least → HeightsFrom list least (replicate n 0) n
+heights_start {list = list} {least = least} table n e =
+    let l = table.least_are.long in
+    record {
+      long = length-replicate n 0 ∙ e;
+      rise = λ k p f h own g. absurd (omega arith);
+      met = λ t h. (
+        t,
+        h,
+        on_distance list table.hold t t 0 h (own_on list (H.Idx t)) (omega arith)
+            ∙ ap (λ x. Some x) (sym (get_or-replicate n (get_or least t 0) 0 0 (let b = own_below table t (omega arith) in omega arith))),
+      );
+    }
 
 pub parent_at : {list : TypeList} {least : List ℕ} {entries : List Entry} → IsTable list least entries → (at : ℕ) (d : Entry) (o : Option ℕ) → at < length least → (get_or entries at d).parent ≡ o → parent (types_of list) at ≡ o
 parent_at {list = list} {entries = entries} table at d o h e =

@@ -1,11 +1,11 @@
 -- How the height of a heap type is found. No public contract speaks of it.
-use Rattle.std.specs.Prelude.{ℕ, ◌<◌, ◌≤◌, ◌≡◌, ◌≢◌, ◌⊎◌, List, length, slice_index, unwrap_or}
+use Rattle.std.specs.Prelude.{ℕ, ◌<◌, ◌≤◌, ◌≡◌, ◌≢◌, ◌⊎◌, List, length, slice_index, Some, unwrap_or}
 use Rattle.gu_types.specs.declared.types.Abs.{Abs}
 use Rattle.gu_types.specs.declared.types.Abs.TheVariants as A
 use Rattle.gu_types.specs.declared.types.HeapType.{HeapType}
 use Rattle.gu_types.specs.declared.types.HeapType.TheVariants as H
 use Rattle.gu_types.specs.declared.types.TypeList.{TypeList}
-use Rattle.gu_types.specs.Depth.{types_of}
+use Rattle.gu_types.specs.Depth.{types_of, parent}
 use Rattle.gu_rec.specs.declared.height.Tops.{Tops}
 use Rattle.gu_rec.specs.declared.place.Place.{Place}
 use Rattle.gu_rec.specs.declared.types.Entry.{Entry}
@@ -36,11 +36,12 @@ pub record Raise (heights new : List ℕ) (own steps : ℕ) : Type 0 where
   pub one_of : (slice_index new own ≡ slice_index heights own) ⊎ (slice_index new own ≡ steps)
   pub others : (j : ℕ) → j ≢ own → slice_index new j ≡ slice_index heights j
 
--- at the least index of each type its greatest distance down to one of the first types, so many
-pub record HeightsTo (list : TypeList) (least heights : List ℕ) (count : ℕ) : Type 0 where
+-- at the least index of each type the distance down to some type. From an index on, where a least index of a type stands,
+-- it is less than that of the supertype
+pub record HeightsFrom (list : TypeList) (least heights : List ℕ) (from : ℕ) : Type 0 where
   pub long : length heights ≡ length least
-  pub each : (t i : ℕ) → t < length (types_of list) → i < count → far list (H.Idx t) (H.Idx i) ≤ slice_index heights (slice_index least t)
-  pub met : (t : ℕ) → t < length (types_of list) → (slice_index heights (slice_index least t) ≡ 0) ⊎ ((i : ℕ) × (i < length (types_of list)) × (far list (H.Idx t) (H.Idx i) ≡ slice_index heights (slice_index least t)))
+  pub rise : (k p : ℕ) → from ≤ k → k < length (types_of list) → slice_index least k ≡ k → parent (types_of list) k ≡ Some p → slice_index heights k < slice_index heights (slice_index least p)
+  pub met : (t : ℕ) → t < length (types_of list) → (i : ℕ) × (i < length (types_of list)) × (distance list (H.Idx t) (H.Idx i) ≡ Some (slice_index heights (slice_index least t)))
 
 -- at the least index of each type its height
 pub record HeightsAre (list : TypeList) (least heights : List ℕ) : Type 0 where

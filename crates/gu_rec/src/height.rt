@@ -7,7 +7,7 @@ ghost use Rattle.gu_rec.specs.declared.types.Entry.{Entry as Kept};
 ghost use Rattle.gu_rec.specs.Sub as sub;
 ghost use Rattle.gu_rec.specs.Tests.{eq_abs};
 ghost use Rattle.gu_rec.specs.Table.{place, IsTable, EntriesAre};
-ghost use Rattle.gu_rec.specs.Heights.{Raise, HeightsTo, HeightsAre, TopsAre};
+ghost use Rattle.gu_rec.specs.Heights.{Raise, HeightsFrom, HeightsAre, TopsAre};
 ghost use Rattle.gu_rec.specs.Heights as heights;
 
 use crate::abs::{abs_distance, abs_height};
@@ -25,28 +25,26 @@ fn raise(heights: &mut Vec<u32>, own: usize, steps: u32)
     }
 }
 
-/// Raises the heights of a type and of those above it to the steps that lead up to each.
-fn raise_line(heights: &mut Vec<u32>, least: &[u32], entries: &[Entry], from: usize)
-    requires table { (list : Listed) × IsTable list least.now entries.now }
-    requires long { length heights.old.items ≡ length least.now }
+/// Raises the height of the type above a type to one step more than the type's own, which is known by then. Of the
+/// indices of one type only the least does so: the others would say the same.
+fn raise_parent(heights: &mut Vec<u32>, least: &[u32], entries: &[Entry], from: usize)
     requires there { from < length least.now }
-    ensures long { length heights.new.items ≡ length heights.old.items }
-    ensures raised { (list : Listed) → IsTable list least.now entries.now → HeightsTo list least.now heights.old.items from → HeightsTo list least.now heights.new.items (from + 1) }
+    requires known { (list : Listed) × (IsTable list least.now entries.now) × HeightsFrom list least.now heights.old.items (from + 1) }
+    ensures { (list : Listed) → IsTable list least.now entries.now → HeightsFrom list least.now heights.old.items (from + 1) → HeightsFrom list least.now heights.new.items from }
 {
-    let mut at = from;
-    let mut steps: u32 = 0;
-    'line: loop {
-        raise(heights, least[at] as usize, steps);
-        let entry = entries[at];
-        let Some(above) = entry.parent else {
-            return;
-        };
-        at = above as usize;
-        steps += 1;
+    if least[from] as usize != from {
+        return;
     }
+    let entry = entries[from];
+    let Some(above) = entry.parent else {
+        return;
+    };
+    let steps = heights[from] + 1;
+    raise(heights, least[above as usize] as usize, steps);
 }
 
-/// The height of each type, at its least index. `AllocError` only where memory is refused.
+/// The height of each type, at its least index. A type's supertype has a smaller index, so the last types come first:
+/// once a type is reached, all that stand below it have been. `AllocError` only where memory is refused.
 pub(crate) fn type_heights(
     alloc: Global,
     least: &[u32],
@@ -56,8 +54,10 @@ pub(crate) fn type_heights(
     ensures { IfOk result (λ heights. (list : Listed) → IsTable list least.now entries.now → HeightsAre list least.now heights.items) }
 {
     let mut heights = vec![in alloc; 0u32; least.len()]?;
-    for from in 0..least.len() {
-        raise_line(&mut heights, least, entries, from);
+    let mut from = least.len();
+    'types: while 0 < from {
+        from -= 1;
+        raise_parent(&mut heights, least, entries, from);
     }
     Ok(heights)
 }
