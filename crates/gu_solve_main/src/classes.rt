@@ -1,6 +1,6 @@
 //! The classes whose fields are written and read.
-ghost use Rattle.std.specs.Prelude.{◌≡◌, ◌<◌, ◌≤◌, ℕ, true, length};
-ghost use Rattle.gu_types.specs.Depth.{depth};
+ghost use Rattle.std.specs.Prelude.{◌≡◌, ◌<◌, ◌≤◌, ℕ, true, length, IfOk};
+ghost use Rattle.gu_types.specs.Depth.{depth, types_of};
 ghost use Rattle.gu_solve_main.specs.Layers.{layer, IsHigher};
 
 use anyhow::ensure;
@@ -92,18 +92,26 @@ fn all_classes(alloc: Global, count: u32) -> Result<Vec<SubType>, AllocError> {
     Ok(all)
 }
 
-/// The facts of a module with so many classes in one group of types, and nothing else.
-pub fn facts_of(alloc: Global, count: u32) -> anyhow::Result<Facts> {
+/// So many classes in one group of types. No class has more than 63 supertypes above it.
+pub fn classes_of(alloc: Global, count: u32) -> anyhow::Result<TypeList>
+    ensures { IfOk result (λ list. (i : ℕ) → depth (types_of list) i ≤ 63) }
+{
     let classes = all_classes(alloc, count)?;
     let layered = are_layered(classes.as_slice());
     ensure!(layered, "a class is too deep");
     let group = RecGroup {
         types: List::from_vec(classes),
     };
-    let list = TypeList {
+    Ok(TypeList {
         groups: List::from_vec(vec![in alloc; group]?),
-    };
-    let types = intern(alloc, &list)?;
+    })
+}
+
+/// The facts of a module with these types, and nothing else.
+pub fn facts_of(alloc: Global, list: &TypeList) -> anyhow::Result<Facts<'_>>
+    requires { (i : ℕ) → depth (types_of list.now) i ≤ 63 }
+{
+    let types = intern(alloc, list)?;
     Ok(Facts {
         types,
         funcs: List::new(alloc),

@@ -3,7 +3,7 @@ ghost use Rattle.std.specs.Prelude.{◌≡◌, ◌≤◌, IfOk, length};
 ghost use Rattle.gu_links.specs.Solutions.{at, Least};
 ghost use Rattle.gu_solve_main.specs.Work.{IsRunnable};
 
-use crate::classes::facts_of;
+use crate::classes::{classes_of, facts_of};
 use crate::gate::Counter;
 use crate::links::{Plan, plan_of};
 use crate::systems::is_system;
@@ -40,7 +40,8 @@ pub fn run(rt: &(impl Threads + Sync), alloc: Global, work: Work) -> anyhow::Res
         cells,
         classes,
     } = plan_of(alloc, work.kind, work.links)?;
-    let facts = facts_of(alloc, classes)?;
+    let list = classes_of(alloc, classes)?;
+    let facts = facts_of(alloc, &list)?;
     let fit = is_system(alloc, &facts, cells, links.as_slice())?;
     if !fit {
         bail!("the links are no system");
