@@ -1,19 +1,23 @@
 -- The greatest distance from a heap type down.
-use Rattle.std.proofs.Common.{◌≡◌, ℕ, zero, suc, ◌+◌, ◌<◌, ◌≤◌, ◌⊎◌, List, [], ◌∷◌, map, fold, max, length, Option, Some, unwrap_or, refl, ap, sym, ◌∙◌, subst, inl, inr, arith, slice_get, get_or, option_map, ap₂}
+use Rattle.std.proofs.Common.{◌≡◌, ℕ, zero, suc, ◌+◌, ◌<◌, ◌≤◌, ◌⊎◌, List, [], ◌∷◌, map, fold, max, length, Option, Some, None, unwrap_or, refl, ap, sym, ◌∙◌, subst, inl, inr, arith, slice_get, get_or, option_map, ap₂}
 use Rattle.std.proofs.lemmas.Bool.{cases_lt}
 use Rattle.std.proofs.lemmas.Option.{slice_get_cases, get_or_from_slice_get}
 use Rattle.gu_types.specs.declared.types.Abs.{Abs}
 use Rattle.gu_types.specs.declared.types.Abs.TheVariants as A
+use Rattle.gu_types.specs.declared.types.Comp.{Comp}
+use Rattle.gu_types.specs.declared.types.Comp.TheVariants as C
+use Rattle.gu_types.specs.declared.types.SubType.{SubType}
 use Rattle.gu_types.specs.declared.types.HeapType.{HeapType}
 use Rattle.gu_types.specs.declared.types.HeapType.TheVariants as H
 use Rattle.gu_types.specs.declared.types.TypeList.{TypeList}
-use Rattle.gu_types.specs.Depth.{types_of, depth}
+use Rattle.gu_types.specs.Depth.{types_of, parent, depth}
 use Rattle.gu_rec.specs.declared.types.Entry.{Entry}
 use Rattle.gu_rec.specs.declared.height.Tops.{Tops}
 use Rattle.gu_rec.specs.Tests.{eq_abs}
-use Rattle.gu_rec.specs.Sub.{abs_line, line, same_heap, distance, indices, height, IsNoBottom}
-use Rattle.gu_rec.specs.Table.{place, EntriesAre}
+use Rattle.gu_rec.specs.Sub.{kind_of, abs_line, line, same_heap, distance, indices, height, IsNoBottom}
+use Rattle.gu_rec.specs.Table.{place, kind_at, root_kind, EntriesAre}
 use Rattle.gu_rec.specs.Heights.{abs_height, far, HeightTo, top_height, TopsAre}
+use Rattle.gu_rec.proofs.Lines.{along, parent_below, kind_root, kind_step}
 use Rattle.gu_rec.proofs.Places.{abs_far}
 use Rattle.gu_rec.proofs.Queries.{distance_is}
 
@@ -75,6 +79,20 @@ height_is list above count most to n =
     let e : most ≡ fold max (base list above) (map (far list above) (indices 0 (length (types_of list)))) = omega arith in
     e ∙ sym (height_from list above)
 
+pub small_start : (most : ℕ) (top : Abs) → most ≡ abs_height (H.Abs top) → most ≤ 66
+small_start most A.Any e = omega arith
+small_start most A.Eq e = omega arith
+small_start most A.I31 e = omega arith
+small_start most A.AnyStruct e = omega arith
+small_start most A.AnyArray e = omega arith
+small_start most A.Bot e = omega arith
+small_start most A.AnyFunc e = omega arith
+small_start most A.NoFunc e = omega arith
+small_start most A.Extern e = omega arith
+small_start most A.NoExtern e = omega arith
+small_start most A.Exn e = omega arith
+small_start most A.NoExn e = omega arith
+
 pub height_starts : (list : TypeList) (above : HeapType) → HeightTo list above 0 (abs_height above)
 height_starts list above = record { start = omega arith; each = λ i l. absurd (omega arith); met = inl refl }
 
@@ -100,6 +118,119 @@ none_more list above count most o to l e p = let f = far_is list above (H.Idx co
 
 pub some_more : (list : TypeList) (above : HeapType) (count most n : ℕ) → HeightTo list above count most → count < length (types_of list) → Some n ≡ place (same_heap list above) (line list (H.Idx count)) → most < n → HeightTo list above (count + 1) n
 some_more list above count most n to l e p = let f = far_is list above (H.Idx count) (Some n) e in one_more list above count most n to l (omega arith) (omega arith) (inr (sym f))
+
+-- each type stands below structures, arrays or functions
+abbrev Rooted : Abs → Type 0
+Rooted k = (k ≡ A.AnyStruct) ⊎ ((k ≡ A.AnyArray) ⊎ (k ≡ A.AnyFunc))
+
+rooted : (types : List SubType) (i : ℕ) → i < length types → Rooted (root_kind types i)
+rooted types = along types (λ i. i < length types → Rooted (root_kind types i)) at_root (λ i p e next h. let b = parent_below types i p e in subst Rooted (sym (kind_step types i p e)) (next (omega arith)))
+  where
+    by_comp : (comp : Comp) → Rooted (kind_of comp)
+    by_comp (C.Func params results) = inr (inr refl)
+    by_comp (C.Struct fields) = inl refl
+    by_comp (C.Array field) = inr (inl refl)
+
+    at_root : (i : ℕ) → parent types i ≡ None → i < length types → Rooted (root_kind types i)
+    at_root i e h =
+        elim (slice_get_cases types i).1 as (λ _. Rooted (root_kind types i)) [
+          | inl w ↦ subst Rooted (sym (kind_root types i e ∙ ap kind_at w.2)) (by_comp w.0.comp)
+          | inr w ↦ absurd (let l = w.0 in omega arith)
+        ]
+
+module _ (list : TypeList) where
+  abbrev far_from : Abs → Abs → ℕ → ℕ
+  far_from top kind deep = unwrap_or (option_map (λ k. suc deep + k) (place (eq_abs top) (abs_line kind))) 0
+
+  far_of : (top kind : Abs) (i : ℕ) → i < length (types_of list) → root_kind (types_of list) i ≡ kind → far list (H.Abs top) (H.Idx i) ≡ far_from top kind (depth (types_of list) i)
+  far_of top kind i h e = far_is list (H.Abs top) (H.Idx i) _ (sym (abs_far list top i h)) ∙ ap (λ k. far_from top k (depth (types_of list) i)) e
+
+  abbrev Met : Abs → ℕ → Type 0
+  Met top most = (most ≡ abs_height (H.Abs top)) ⊎ ((i : ℕ) × (i < length (types_of list)) × (far list (H.Abs top) (H.Idx i) ≡ most))
+
+  pub eq_to : (count s a most : ℕ) → HeightTo list (H.Abs A.AnyStruct) count s → HeightTo list (H.Abs A.AnyArray) count a → count ≤ length (types_of list) → most ≡ max s a + 1 → HeightTo list (H.Abs A.Eq) count most
+  eq_to count s a most structs arrays l m = record {
+    start = omega arith;
+    each = λ i h.
+        let x = structs.each i h in
+        let y = arrays.each i h in
+        elim (rooted (types_of list) i (omega arith)) as (λ _. far list (H.Abs A.Eq) (H.Idx i) ≤ most) [
+          | inl e ↦
+              let f = far_of A.Eq A.AnyStruct i (omega arith) e in
+              let g = far_of A.AnyStruct A.AnyStruct i (omega arith) e in
+              omega arith
+          | inr (inl e) ↦
+              let f = far_of A.Eq A.AnyArray i (omega arith) e in
+              let g = far_of A.AnyArray A.AnyArray i (omega arith) e in
+              omega arith
+          | inr (inr e) ↦ let f = far_of A.Eq A.AnyFunc i (omega arith) e in omega arith
+        ];
+    met = elim (cases_lt s a) as (λ _. Met A.Eq most) [ inl h ↦ by_arrays (omega arith) arrays.met | inr h ↦ by_structs (omega arith) structs.met ];
+  }
+    where
+      by_structs : most ≡ s + 1 → Met A.AnyStruct s → Met A.Eq most
+      by_structs n (inl e) = inl (omega arith)
+      by_structs n (inr w) =
+          let f = w.2 in
+          elim (rooted (types_of list) w.0 w.1) as (λ _. Met A.Eq most) [
+            | inl e ↦ let g = far_of A.AnyStruct A.AnyStruct w.0 w.1 e in let k = far_of A.Eq A.AnyStruct w.0 w.1 e in inr (w.0, w.1, omega arith)
+            | inr (inl e) ↦ let g = far_of A.AnyStruct A.AnyArray w.0 w.1 e in inl (omega arith)
+            | inr (inr e) ↦ let g = far_of A.AnyStruct A.AnyFunc w.0 w.1 e in inl (omega arith)
+          ]
+
+      by_arrays : most ≡ a + 1 → Met A.AnyArray a → Met A.Eq most
+      by_arrays n (inl e) = inl (omega arith)
+      by_arrays n (inr w) =
+          let f = w.2 in
+          elim (rooted (types_of list) w.0 w.1) as (λ _. Met A.Eq most) [
+            | inl e ↦ let g = far_of A.AnyArray A.AnyStruct w.0 w.1 e in inl (omega arith)
+            | inr (inl e) ↦ let g = far_of A.AnyArray A.AnyArray w.0 w.1 e in let k = far_of A.Eq A.AnyArray w.0 w.1 e in inr (w.0, w.1, omega arith)
+            | inr (inr e) ↦ let g = far_of A.AnyArray A.AnyFunc w.0 w.1 e in inl (omega arith)
+          ]
+
+  one_further : (i : ℕ) → i < length (types_of list) → (far list (H.Abs A.Any) (H.Idx i) ≡ far list (H.Abs A.Eq) (H.Idx i) + 1) ⊎ ((far list (H.Abs A.Any) (H.Idx i) ≡ 0) × (far list (H.Abs A.Eq) (H.Idx i) ≡ 0))
+  one_further i h =
+      elim (rooted (types_of list) i h) as (λ _. (far list (H.Abs A.Any) (H.Idx i) ≡ far list (H.Abs A.Eq) (H.Idx i) + 1) ⊎ ((far list (H.Abs A.Any) (H.Idx i) ≡ 0) × (far list (H.Abs A.Eq) (H.Idx i) ≡ 0))) [
+        | inl e ↦ let f = far_of A.Any A.AnyStruct i h e in let g = far_of A.Eq A.AnyStruct i h e in inl (omega arith)
+        | inr (inl e) ↦ let f = far_of A.Any A.AnyArray i h e in let g = far_of A.Eq A.AnyArray i h e in inl (omega arith)
+        | inr (inr e) ↦ inr (far_of A.Any A.AnyFunc i h e, far_of A.Eq A.AnyFunc i h e)
+      ]
+
+  pub any_to : (count e : ℕ) → HeightTo list (H.Abs A.Eq) count e → count ≤ length (types_of list) → HeightTo list (H.Abs A.Any) count (e + 1)
+  any_to count e to l = record {
+    start = let s = to.start in omega arith;
+    each = λ i h.
+        let x = to.each i h in
+        elim (one_further i (omega arith)) as (λ _. far list (H.Abs A.Any) (H.Idx i) ≤ e + 1) [ inl f ↦ omega arith | inr w ↦ let f = w.0 in omega arith ];
+    met = elim to.met as (λ _. Met A.Any (e + 1)) [
+      | inl f ↦ inl (omega arith)
+      | inr w ↦
+          let g = w.2 in
+          let s = to.start in
+          elim (one_further w.0 w.1) as (λ _. Met A.Any (e + 1)) [ inl f ↦ inr (w.0, w.1, omega arith) | inr v ↦ absurd (let f = v.1 in omega arith) ]
+    ];
+  }
+
+  none_to : (top : Abs) (count : ℕ) → abs_height (H.Abs top) ≡ 0 → far_from top A.AnyStruct ≡ (λ d. 0) → far_from top A.AnyArray ≡ (λ d. 0) → far_from top A.AnyFunc ≡ (λ d. 0) → count ≤ length (types_of list) → HeightTo list (H.Abs top) count 0
+  none_to top count b s a f l = record {
+    start = omega arith;
+    each = λ i h.
+        elim (rooted (types_of list) i (omega arith)) as (λ _. far list (H.Abs top) (H.Idx i) ≤ 0) [
+          | inl e ↦ let g = far_of top A.AnyStruct i (omega arith) e ∙ ap (λ k. k (depth (types_of list) i)) s in omega arith
+          | inr (inl e) ↦ let g = far_of top A.AnyArray i (omega arith) e ∙ ap (λ k. k (depth (types_of list) i)) a in omega arith
+          | inr (inr e) ↦ let g = far_of top A.AnyFunc i (omega arith) e ∙ ap (λ k. k (depth (types_of list) i)) f in omega arith
+        ];
+    met = inl (sym b);
+  }
+
+  pub i31_to : (count : ℕ) → count ≤ length (types_of list) → HeightTo list (H.Abs A.I31) count 0
+  i31_to count l = none_to A.I31 count refl refl refl refl l
+
+  pub extern_to : (count : ℕ) → count ≤ length (types_of list) → HeightTo list (H.Abs A.Extern) count 0
+  extern_to count l = none_to A.Extern count refl refl refl refl l
+
+  pub exn_to : (count : ℕ) → count ≤ length (types_of list) → HeightTo list (H.Abs A.Exn) count 0
+  exn_to count l = none_to A.Exn count refl refl refl refl l
 
 pub read_some : {X : Type 0} (xs : List X) (i : ℕ) (d : X) → i < length xs → slice_get xs i ≡ Some (get_or xs i d)
 read_some xs i d h =

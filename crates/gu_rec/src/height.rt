@@ -7,7 +7,7 @@ ghost use Rattle.gu_rec.specs.declared.types.Entry.{Entry as Kept};
 ghost use Rattle.gu_rec.specs.Sub as sub;
 ghost use Rattle.gu_rec.specs.Tests.{eq_abs};
 ghost use Rattle.gu_rec.specs.Table.{place, IsTable, EntriesAre};
-ghost use Rattle.gu_rec.specs.Heights.{Raise, HeightsFrom, HeightsAre, TopsAre};
+ghost use Rattle.gu_rec.specs.Heights.{HeightTo, Raise, HeightsFrom, HeightsAre, TopsAre};
 ghost use Rattle.gu_rec.specs.Heights as heights;
 
 use crate::abs::{abs_distance, abs_height};
@@ -97,7 +97,8 @@ impl Tops {
 /// How many edges lead from an abstract heap type down to a type, by what is kept of it.
 fn edges_to(entry: Entry, top: Abs) -> Option<u32>
     requires { entry.depth ≤ 63 }
-    ensures { result ≡ option_map (λ k. suc entry.depth + k) (place (eq_abs top) (sub.abs_line entry.kind)) }
+    ensures far { result ≡ option_map (λ k. suc entry.depth + k) (place (eq_abs top) (sub.abs_line entry.kind)) }
+    ensures small { (edges : ℕ) → result ≡ Some edges → edges ≤ 66 }
 {
     match abs_distance(top, entry.kind) {
         None => None,
@@ -105,10 +106,11 @@ fn edges_to(entry: Entry, top: Abs) -> Option<u32>
     }
 }
 
-/// The height of an abstract heap type.
+/// The height of an abstract heap type, found from all types.
 fn farthest(entries: &[Entry], top: Abs) -> u32
     requires { (i : ℕ) (entry : Kept) → slice_get entries.now i ≡ Some entry → entry.depth ≤ 63 }
-    ensures { (list : Listed) → EntriesAre (types_of list) entries.now → result ≡ sub.height list (H.Abs top) }
+    ensures small { result ≤ 66 }
+    ensures to { (list : Listed) → EntriesAre (types_of list) entries.now → HeightTo list (H.Abs top) (length entries.now) result }
 {
     let mut most = abs_height(HeapType::Abs(top));
     for i in 0..entries.len() {
@@ -121,27 +123,24 @@ fn farthest(entries: &[Entry], top: Abs) -> u32
     most
 }
 
-/// The heights of the abstract heap types, from what is kept of the types.
+/// The heights of the abstract heap types, from what is kept of the types. Each type stands below `struct`, `array` or
+/// `func`: `eq` is one step above the first two, `any` is one above `eq`, and no type stands below the others.
 pub(crate) fn tops_of(entries: &[Entry]) -> Tops
     requires { (i : ℕ) (entry : Kept) → slice_get entries.now i ≡ Some entry → entry.depth ≤ 63 }
     ensures { (list : Listed) → EntriesAre (types_of list) entries.now → TopsAre list result }
 {
-    let any = farthest(entries, Abs::Any);
-    let eq = farthest(entries, Abs::Eq);
-    let i31 = farthest(entries, Abs::I31);
     let structs = farthest(entries, Abs::AnyStruct);
     let arrays = farthest(entries, Abs::AnyArray);
     let funcs = farthest(entries, Abs::AnyFunc);
-    let externs = farthest(entries, Abs::Extern);
-    let exns = farthest(entries, Abs::Exn);
+    let eq = structs.max(arrays) + 1;
     Tops {
-        any,
+        any: eq + 1,
         eq,
-        i31,
+        i31: 0,
         structs,
         arrays,
         funcs,
-        externs,
-        exns,
+        externs: 0,
+        exns: 0,
     }
 }
