@@ -12,13 +12,21 @@ use std::marker::Brand;
 use std::process::Abort;
 use std::test::Fail;
 
+/// The types of a module without any.
+fn no_types(alloc: Global) -> TypeList
+    ensures { result.groups ≡ [] }
+{
+    TypeList {
+        groups: List::new(alloc),
+    }
+}
+
 /// The facts of a module without types.
 #[tactic(auto, using(gu_rec::proofs::Lines::few_are_shallow))]
-fn facts(alloc: Global) -> Result<Facts, Fail> {
-    let list = TypeList {
-        groups: List::new(alloc),
-    };
-    let types = intern(alloc, &list)?;
+fn facts(alloc: Global, list: &TypeList) -> Result<Facts<'_>, Fail>
+    requires { list.now.groups ≡ [] }
+{
+    let types = intern(alloc, list)?;
     Ok(Facts {
         types,
         funcs: List::new(alloc),
@@ -90,7 +98,8 @@ fn open_meet_close<N: Ceilings>(
 
 #[test]
 fn two_seats_meet_at_a_cell(rt: HostRuntime) -> Result<(), Fail> {
-    let facts = facts(rt.alloc())?;
+    let list = no_types(rt.alloc());
+    let facts = facts(rt.alloc(), &list)?;
     let longs = Longs::new(rt.alloc())?;
     open_meet_close::<Brand>(&rt, rt.alloc(), &facts, &longs)
 }

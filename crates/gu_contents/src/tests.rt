@@ -42,13 +42,13 @@ fn three(alloc: Global) -> Result<TypeList, AllocError>
     })
 }
 
-/// The facts of the three types, without functions and globals.
+/// The facts of three types, without functions and globals.
 #[tactic(auto, using(gu_rec::proofs::Lines::few_are_shallow))]
-fn facts(alloc: Global) -> Result<Facts, Fail>
+fn facts(alloc: Global, list: &TypeList) -> Result<Facts<'_>, Fail>
+    requires { length (types_of list.now) ≡ 3 }
     ensures { IfOk result (λ f. length (types_of f.types) ≡ 3) }
 {
-    let list = three(alloc)?;
-    let types = intern(alloc, &list)?;
+    let types = intern(alloc, list)?;
     Ok(Facts {
         types,
         funcs: List::new(alloc),
@@ -81,7 +81,8 @@ fn below(index: u32, edges: u32) -> Content {
 
 #[test]
 fn references_meet_in_a_cone(rt: HostRuntime) -> Result<(), Fail> {
-    let f = facts(rt.alloc())?;
+    let list = three(rt.alloc())?;
+    let f = facts(rt.alloc(), &list)?;
     let a = cone(&f, true, A, 0).ok_or("no cone")?;
     let b = cone(&f, false, B, 0).ok_or("no cone")?;
     expect(&rt, join(&f, b, a), below(A, 1));
@@ -92,7 +93,8 @@ fn references_meet_in_a_cone(rt: HostRuntime) -> Result<(), Fail> {
 
 #[test]
 fn casts_cut_a_cone(rt: HostRuntime) -> Result<(), Fail> {
-    let f = facts(rt.alloc())?;
+    let list = three(rt.alloc())?;
+    let f = facts(rt.alloc(), &list)?;
     let a = cone(&f, true, A, 2).ok_or("no cone")?;
     let to = RefType {
         null: false,
@@ -111,7 +113,8 @@ fn casts_cut_a_cone(rt: HostRuntime) -> Result<(), Fail> {
 
 #[test]
 fn tests_answer_no_outside_a_cone(rt: HostRuntime) -> Result<(), Fail> {
-    let f = facts(rt.alloc())?;
+    let list = three(rt.alloc())?;
+    let f = facts(rt.alloc(), &list)?;
     let a = cone(&f, false, A, 1).ok_or("no cone")?;
     let b = cone(&f, true, B, 0).ok_or("no cone")?;
     let lower = RefType {
@@ -130,7 +133,8 @@ fn tests_answer_no_outside_a_cone(rt: HostRuntime) -> Result<(), Fail> {
 
 #[test]
 fn numbers_are_packed_and_extended(rt: HostRuntime) -> Result<(), Fail> {
-    let f = facts(rt.alloc())?;
+    let list = three(rt.alloc())?;
+    let f = facts(rt.alloc(), &list)?;
     let null = Content::Ref(true, Core::Bottom);
     expect(
         &rt,

@@ -46,16 +46,23 @@ impl Gate for Meeting {
     }
 }
 
+/// The types of a module with nothing in it.
+fn no_types(alloc: Global) -> TypeList
+    ensures { result.groups ≡ [] }
+{
+    TypeList {
+        groups: List::new(alloc),
+    }
+}
+
 /// The facts of a module with nothing in it.
 #[tactic(auto, using(gu_rec::proofs::Lines::few_are_shallow))]
-fn no_facts(alloc: Global) -> Result<Facts, Fail>
+fn no_facts(alloc: Global, list: &TypeList) -> Result<Facts<'_>, Fail>
+    requires { list.now.groups ≡ [] }
     ensures types { IfOk result (λ f. f.types.groups ≡ []) }
     ensures funcs { IfOk result (λ f. f.funcs ≡ []) }
 {
-    let list = TypeList {
-        groups: List::new(alloc),
-    };
-    let types = intern(alloc, &list)?;
+    let types = intern(alloc, list)?;
     Ok(Facts {
         types,
         funcs: List::new(alloc),
@@ -68,7 +75,8 @@ fn no_facts(alloc: Global) -> Result<Facts, Fail>
 #[test]
 fn two_workers_run_at_once(rt: HostRuntime) -> Result<(), Fail> {
     let alloc = rt.alloc();
-    let facts = no_facts(alloc)?;
+    let list = no_types(alloc);
+    let facts = no_facts(alloc, &list)?;
     let longs = Longs::new(alloc)?;
     let five = Link::Root {
         give: Content::I32(5),

@@ -9,16 +9,23 @@ use gu_types::{List, TypeList};
 use std::alloc::Global;
 use std::test::Fail;
 
+/// The types of a module with nothing in it.
+fn no_types(alloc: Global) -> TypeList
+    ensures { result.groups ≡ [] }
+{
+    TypeList {
+        groups: List::new(alloc),
+    }
+}
+
 /// The facts of a module with nothing in it.
 #[tactic(auto, using(gu_rec::proofs::Lines::few_are_shallow))]
-fn no_facts(alloc: Global) -> Result<Facts, Fail>
+fn no_facts(alloc: Global, list: &TypeList) -> Result<Facts<'_>, Fail>
+    requires { list.now.groups ≡ [] }
     ensures types { IfOk result (λ f. types_of f.types ≡ []) }
     ensures funcs { IfOk result (λ f. f.funcs ≡ []) }
 {
-    let list = TypeList {
-        groups: List::new(alloc),
-    };
-    let types = intern(alloc, &list)?;
+    let types = intern(alloc, list)?;
     Ok(Facts {
         types,
         funcs: List::new(alloc),
@@ -27,7 +34,7 @@ fn no_facts(alloc: Global) -> Result<Facts, Fail>
 }
 
 /// 7 flows into the first of two cells, from there into the second, and from there into itself.
-fn round<'a>(alloc: Global, f: &'a Facts) -> Result<System<'a>, Fail>
+fn round<'a>(alloc: Global, f: &'a Facts<'a>) -> Result<System<'a>, Fail>
     requires types { types_of f.now.types ≡ [] }
     requires funcs { f.now.funcs ≡ [] }
     ensures { IfOk result (λ s. s.links ≡ Link.Root (Content.I32 7) 0 ∷ Link.Copy 0 1 ∷ Link.Copy 1 1 ∷ []) }
@@ -48,7 +55,8 @@ fn round<'a>(alloc: Global, f: &'a Facts) -> Result<System<'a>, Fail>
 #[test]
 fn a_number_goes_round(rt: HostRuntime) -> Result<(), Fail> {
     let alloc = rt.alloc();
-    let facts = no_facts(alloc)?;
+    let list = no_types(alloc);
+    let facts = no_facts(alloc, &list)?;
     let s = round(alloc, &facts)?;
     assert_eq!(rt; s.next_read(0, &[]), None);
     let asked = apply(alloc, &s, 0, &[])?;

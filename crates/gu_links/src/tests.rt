@@ -63,9 +63,10 @@ fn four(alloc: Global) -> Result<TypeList, AllocError>
 
 /// The facts of these types and of two functions of the last one.
 #[tactic(auto, using(gu_rec::proofs::Lines::few_are_shallow))]
-fn facts(alloc: Global) -> Result<Facts, Fail> {
-    let list = four(alloc)?;
-    let types = intern(alloc, &list)?;
+fn facts(alloc: Global, list: &TypeList) -> Result<Facts<'_>, Fail>
+    requires { length (types_of list.now) ≡ 4 }
+{
+    let types = intern(alloc, list)?;
     Ok(Facts {
         types,
         funcs: List::from_vec(vec![in alloc; 3, 3]?),
@@ -75,7 +76,8 @@ fn facts(alloc: Global) -> Result<Facts, Fail> {
 
 #[test]
 fn same_structures_share_their_cells(rt: HostRuntime) -> Result<(), Fail> {
-    let facts = facts(rt.alloc())?;
+    let list = four(rt.alloc())?;
+    let facts = facts(rt.alloc(), &list)?;
     let numbering = Numbering::new(rt.alloc(), &facts)?;
     assert_eq!(rt; numbering.own_cells(), 9);
     Ok(())

@@ -11,16 +11,23 @@ use gu_types::{List, TypeList};
 use std::alloc::Global;
 use std::test::Fail;
 
+/// The types of a module with nothing in it.
+fn no_types(alloc: Global) -> TypeList
+    ensures { result.groups ≡ [] }
+{
+    TypeList {
+        groups: List::new(alloc),
+    }
+}
+
 /// The facts of a module with nothing in it.
 #[tactic(auto, using(gu_rec::proofs::Lines::few_are_shallow))]
-fn no_facts(alloc: Global) -> Result<Facts, Fail>
+fn no_facts(alloc: Global, list: &TypeList) -> Result<Facts<'_>, Fail>
+    requires { list.now.groups ≡ [] }
     ensures types { IfOk result (λ f. f.types.groups ≡ []) }
     ensures funcs { IfOk result (λ f. f.funcs ≡ []) }
 {
-    let list = TypeList {
-        groups: List::new(alloc),
-    };
-    let types = intern(alloc, &list)?;
+    let types = intern(alloc, list)?;
     Ok(Facts {
         types,
         funcs: List::new(alloc),
@@ -32,7 +39,8 @@ fn no_facts(alloc: Global) -> Result<Facts, Fail>
 fn solved(alloc: Global, links: Vec<Link>) -> Result<List<Content>, Fail>
     requires { (f : Facts) (longs : Items ℕ) → All (Fits f longs 5) links.items }
 {
-    let facts = no_facts(alloc)?;
+    let list = no_types(alloc);
+    let facts = no_facts(alloc, &list)?;
     let longs = Longs::new(alloc)?;
     let s = System::new(alloc, List::from_vec(links), 5, &facts, longs)?;
     let start = vec![in alloc; Content::Empty; 5]?;
