@@ -1,5 +1,5 @@
 -- Batches that are read apart, and joined.
-use Rattle.std.proofs.Common.{ℕ, ◌+◌, ◌≤◌, ◌≡◌, refl, ◌<◌, drop, length-append, length-drop, inl, inr, ap, ◌∙◌, sym, subst, List, [], ◌∷◌, ◌++◌, append_assoc, length, arith, Result, Ok, Err}
+use Rattle.std.proofs.Common.{ℕ, ◌+◌, ◌≤◌, ◌≡◌, refl, length-append, inl, inr, ap, ◌∙◌, sym, subst, List, [], ◌∷◌, ◌++◌, append_assoc, length, arith, Result, Ok, Err}
 use Rattle.std.specs.List.{AllZip}
 use Rattle.std.proofs.lemmas.List.{append-nil}
 use Rattle.gu_syntax.specs.declared.module.Func.{Func}
@@ -13,7 +13,7 @@ use Rattle.gu_read_parts.specs.Gives.{Fails, left_at}
 use Rattle.gu_read_parts.proofs.Vectors.{behind}
 use Rattle.gu_read.specs.declared.batches.Batch.{Batch}
 use Rattle.gu_read.specs.Standing.{StandsFor, AllStandFor}
-use Rattle.gu_read.specs.Batches.{EndsAt, Follow, behind_piece, joined_piece, joined, ReadsBatch, Answers, Joins, JoinsBehind, JoinsRead}
+use Rattle.gu_read.specs.Batches.{EndsAt, Follow, behind_piece, joined_piece, joined, ReadsBatch, Answers, Joins, JoinsBehind, JoinsRead, JoinsAll}
 use Rattle.gu_read.proofs.Runs.{zip_append}
 use Rattle.gu_read.proofs.Ends.{entries_append}
 
@@ -50,9 +50,6 @@ batches_joined [] [] tys text rest h z = ([], tt, ap (λ t. entries_at 1000 t te
 batches_joined [] (piece ∷ pieces) tys text rest h z = absurd z
 batches_joined (batch ∷ batches) [] tys text rest h z = absurd z
 batches_joined (batch ∷ batches) (piece ∷ pieces) tys text rest h z = subst (λ t. Gives (joined_piece piece (joined pieces)) (entries_at 1000 t text) rest) (sym h.2) (one_joined batch piece (joined pieces) text h.0 h.1 rest h.3 h.4 z.0 (batches_joined batches pieces h.0 h.1 rest h.5 z.1))
-
-pub not_none : {X : Type 0} (xs : List X) (x : X) → xs ++ x ∷ [] ≡ [] → ⊥
-not_none xs x e = let n = ap length e in omega (arith, n, length-append xs (x ∷ []))
 
 -- joining piece by piece: these functions stand before those of the pieces that are left
 pub record Joining (full : Result (List Func) Stop) (all : List Func) (pieces : List (Result (List Func) Stop)) : Type 0 where
@@ -109,6 +106,36 @@ pub fails_behind_all : (stop : Stop) (pieces : List (Result (List Func) Stop)) �
 fails_behind_all S.NoMemory pieces before joins = tt
 fails_behind_all (S.Refused asked left) pieces before joins = joined_append before pieces ∙ ap (λ r. joined_piece r (joined pieces)) joins
 
+-- rounds of batches: the pieces of those that were read are joined, but for those of the last round
+pub record Rounds (batches : List Batch) (all : Result (List Func) Stop) (pieces : List (Result (List Func) Stop)) (left : List Batch) : Type 0 where
+  pub done : List Batch
+  pub before : List (Result (List Func) Stop)
+  pub whole : done ++ left ≡ batches
+  pub zip : AllZip ReadsBatch done (before ++ pieces)
+  pub joins : Joins before all
+
+pub rounds_begin : (batches : List Batch) → Rounds batches (Ok []) [] batches
+rounds_begin batches = record { done = []; before = []; whole = refl; zip = tt; joins = refl }
+
+pub rounds_on : (batches : List Batch) (all joined : Result (List Func) Stop) (pieces next : List (Result (List Func) Stop)) (left these others : List Batch) → Rounds batches all pieces left → left ≡ these ++ others → JoinsBehind all pieces joined → AllZip ReadsBatch these next → Rounds batches joined next others
+rounds_on batches all joined pieces next left these others h split behind reads = record {
+  done = h.done ++ these;
+  before = h.before ++ pieces;
+  whole = append_assoc h.done these others ∙ ap (λ l. h.done ++ l) (sym split) ∙ h.whole;
+  zip = zip_append ReadsBatch h.done these (h.before ++ pieces) next h.zip reads;
+  joins = behind h.before h.joins;
+}
+
+all_joined : (batches : List Batch) (result : Result (List Func) Stop) → JoinsRead batches result → JoinsAll batches result
+all_joined batches (Ok funcs) h = h
+all_joined batches (Err S.NoMemory) h = tt
+all_joined batches (Err (S.Refused asked left)) h = h
+
+pub rounds_end : (batches : List Batch) (all : Result (List Func) Stop) (pieces : List (Result (List Func) Stop)) (left : List Batch) (result : Result (List Func) Stop) → Rounds batches all pieces left → left ≡ [] → JoinsBehind all pieces result → JoinsAll batches result
+rounds_end batches all pieces left result h none behind =
+    let same : h.done ≡ batches = sym (append-nil h.done) ∙ ap (λ l. h.done ++ l) (sym none) ∙ h.whole in
+    all_joined batches result (h.before ++ pieces, subst (λ bs. AllZip ReadsBatch bs (h.before ++ pieces)) same h.zip, behind h.before h.joins)
+
 -- what is joined is what the entries are read as
 joins_gives : (pieces : List (Result (List Func) Stop)) (result : Result (List Func) Stop) (read : Read (List Func)) (rest : List ℕ) → Joins pieces result → Gives (joined pieces) read rest → Gives result read rest
 joins_gives pieces (Ok funcs) read rest joins h = subst (λ r. Gives r read rest) joins h
@@ -118,44 +145,10 @@ joins_gives pieces (Err (S.Refused asked left)) read rest joins h = subst (λ r.
 read_gives : (batches : List Batch) (result : Result (List Func) Stop) (tys text rest : List ℕ) → Follow batches tys text [] rest → JoinsRead batches result → Gives result (entries_at 1000 tys text) rest
 read_gives batches result tys text rest follow h = joins_gives h.0 result (entries_at 1000 tys text) rest h.2 (batches_joined batches h.0 tys text rest follow h.1)
 
--- each batch has types
-pub fewer_on : (batches new : List Batch) (batch : Batch) (tys back all : List ℕ) (count : ℕ) → new ≡ batches ++ batch ∷ [] → back ≡ drop count tys → 0 < count → count ≤ length tys → length batches + length tys ≤ length all → length new + length back ≤ length all
-fewer_on batches new batch tys back all count grown left some most fewer =
-    let a = ap length grown in
-    let b = ap length left in
-    omega (arith, a, b, length-append batches (batch ∷ []), length-drop count tys, some, most, fewer)
-
--- batches behind batches
-follow_append : (before batches : List Batch) (tys text others rest more behind : List ℕ) → Follow before tys text others rest → Follow batches others rest more behind → Follow (before ++ batches) tys text more behind
-follow_append [] batches tys text others rest more behind h k = subst (λ t. Follow batches t text more behind) (sym h.0) (subst (λ t. Follow batches others t more behind) (sym h.1) k)
-follow_append (first ∷ before) batches tys text others rest more behind h k = (h.0, h.1, h.2, h.3, h.4, follow_append before batches h.0 h.1 others rest more behind h.5 k)
-
--- rounds of batches: the pieces of those before these are read, and joined but for those of the round before, and others
--- are left behind these
-pub record Rounds (tys text : List ℕ) (all : Result (List Func) Stop) (pieces : List (Result (List Func) Stop)) (batches : List Batch) (others rest : List ℕ) : Type 0 where
-  pub done : List Batch
-  pub before : List (Result (List Func) Stop)
-  pub follow : Follow (done ++ batches) tys text others rest
-  pub zip : AllZip ReadsBatch done (before ++ pieces)
-  pub joins : Joins before all
-
-pub rounds_begin : (tys text : List ℕ) (batches : List Batch) (others rest : List ℕ) → Follow batches tys text others rest → Rounds tys text (Ok []) [] batches others rest
-rounds_begin tys text batches others rest h = record { done = []; before = []; follow = h; zip = tt; joins = refl }
-
-pub rounds_on : (tys text : List ℕ) (all joined : Result (List Func) Stop) (pieces next : List (Result (List Func) Stop)) (batches more : List Batch) (others rest left behind : List ℕ) → Rounds tys text all pieces batches others rest → JoinsBehind all pieces joined → AllZip ReadsBatch batches next → Follow more others rest left behind → Rounds tys text joined next more left behind
-rounds_on tys text all joined pieces next batches more others rest left behind h joins reads follow = record {
-  done = h.done ++ batches;
-  before = h.before ++ pieces;
-  follow = follow_append (h.done ++ batches) more tys text others rest left behind h.follow follow;
-  zip = zip_append ReadsBatch h.done batches (h.before ++ pieces) next h.zip reads;
-  joins = joins h.before h.joins;
-}
-
-pub rounds_end : (tys text : List ℕ) (all : Result (List Func) Stop) (pieces : List (Result (List Func) Stop)) (batches : List Batch) (others rest : List ℕ) (result : Result (List Func) Stop) → batches ≡ [] → others ≡ [] → Rounds tys text all pieces batches others rest → JoinsBehind all pieces result → Gives result (entries_at 1000 tys text) rest
-rounds_end tys text all pieces batches others rest result none last h joins =
-    let same : h.done ++ batches ≡ h.done = ap (λ bs. h.done ++ bs) none ∙ append-nil h.done in
-    let follow : Follow h.done tys text [] rest = subst (λ bs. Follow bs tys text [] rest) same (subst (λ t. Follow (h.done ++ batches) tys text t rest) last h.follow) in
-    read_gives h.done result tys text rest follow (h.before ++ pieces, h.zip, joins h.before h.joins)
+pub joined_gives : (batches : List Batch) (result : Result (List Func) Stop) (tys text rest : List ℕ) → Follow batches tys text [] rest → JoinsAll batches result → Gives result (entries_at 1000 tys text) rest
+joined_gives batches (Ok funcs) tys text rest follow h = read_gives batches (Ok funcs) tys text rest follow h
+joined_gives batches (Err S.NoMemory) tys text rest follow h = tt
+joined_gives batches (Err (S.Refused asked left)) tys text rest follow h = read_gives batches (Err (S.Refused asked left)) tys text rest follow h
 
 -- reading entries stops within the text
 func_reads : (ty : ℕ) → Decodes 0 (FuncOf ty) (func_at 1000 ty)

@@ -1,12 +1,11 @@
 -- Code entries in batches, which are read apart and joined in order.
-use Rattle.std.specs.Prelude.{ℕ, ◌+◌, ◌≤◌, ◌≡◌, List, [], ◌∷◌, ◌++◌, length, Result, Ok, Err}
+use Rattle.std.specs.Prelude.{ℕ, ◌≡◌, List, [], ◌∷◌, ◌++◌, Result, Ok, Err}
 use Rattle.gu_syntax.specs.declared.module.Func.{Func}
 use Rattle.gu_syntax.specs.Reading.{got, entries_at}
 use Rattle.std.specs.List.{AllZip}
 use Rattle.gu_read_parts.specs.declared.stop.Stop.{Stop}
 use Rattle.gu_read_parts.specs.declared.stop.Stop.TheVariants as S
 use Rattle.gu_read.specs.declared.batches.Batch.{Batch}
-use Rattle.gu_read.specs.declared.batches.Round.{Round}
 use Rattle.gu_read.specs.Standing.{AllStandFor, GivesFront}
 
 -- where entries of these types are read at the front of the text, they end where the text goes on like this
@@ -56,9 +55,7 @@ ReadsEach batches pieces = AllZip ReadsBatch batches pieces
 abbrev pub JoinsRead : List Batch → Result (List Func) Stop → Type 0
 JoinsRead batches result = (pieces : List (Result (List Func) Stop)) × ReadsEach batches pieces × Joins pieces result
 
--- the first batches of entries of these types, where some are left behind them: none only where there are no types
-pub record IsRound (round : Round) (tys text : List ℕ) : Type 0 where
-  pub follow : Follow round.batches.items tys text round.tys.now round.rest.now
-  pub fewer : length round.batches.items + length round.tys.now ≤ length tys
-  pub whole : round.batches.items ≡ [] → round.tys.now ≡ []
-  pub inside : length round.rest.now ≤ length text
+abbrev pub JoinsAll : List Batch → Result (List Func) Stop → Type 0
+JoinsAll batches (Ok funcs) = JoinsRead batches (Ok funcs)
+JoinsAll batches (Err S.NoMemory) = Unit {0}
+JoinsAll batches (Err (S.Refused asked left)) = JoinsRead batches (Err (S.Refused asked left))

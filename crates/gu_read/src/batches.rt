@@ -1,4 +1,4 @@
-//! Batches of code entries, and rounds of batches.
+//! A batch of code entries.
 
 /// Code entries of these types, which begin these bytes.
 #[derive(Clone, Copy, Debug)]
@@ -7,15 +7,4 @@ pub struct Batch<'a> {
     pub tys: &'a [u32],
     /// The bytes from the first entry on.
     pub bytes: &'a [u8],
-}
-
-/// Batches that stand one behind another and are read at once.
-#[derive(Debug, Drop)]
-pub struct Round<'a> {
-    /// The batches, in order.
-    pub batches: Vec<Batch<'a>>,
-    /// The indices of the types of the entries behind them.
-    pub tys: &'a [u32],
-    /// The bytes behind them.
-    pub rest: &'a [u8],
 }

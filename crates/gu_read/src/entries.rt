@@ -1,16 +1,15 @@
 //! The entries of the code section, read in parallel (core specification 3.0, 5.5.13 Code Section).
 //! They are found by their sizes first, in batches of about equal bytes, so that many small ones are
 //! not a task each. Batches are read in rounds, and while a round is read the functions of the round
-//! before it are joined to those that stand before them, and the batches of the round behind it are
-//! found. The first failure in order is answered.
-ghost use Rattle.std.specs.Prelude.{◌≡◌, ◌<◌, ◌≤◌, [], take, length, IfOk};
+//! before it are joined to those that stand before them. The first failure in order is answered.
+ghost use Rattle.std.specs.Prelude.{◌≡◌, ◌+◌, ◌<◌, ◌≤◌, [], take, length, IfOk};
 ghost use Rattle.std.specs.Thread.{IsSync};
 ghost use Rattle.gu_syntax.specs.Reading.{func_at, entries_at};
 ghost use Rattle.gu_read_parts.specs.Gives.{left_of, left_at};
 ghost use Rattle.gu_read.specs.Standing.{StandsFor, AllStandFor, GivesBy};
-ghost use Rattle.gu_read.specs.Batches.{EndsAt, IsRound, ReadsBatch, ReadsEach, JoinsBehind};
+ghost use Rattle.gu_read.specs.Batches.{EndsAt, Follow, ReadsBatch, ReadsEach, JoinsBehind, JoinsAll};
 
-use crate::batches::{Batch, Round};
+use crate::batches::Batch;
 use gu_read_code::{Entry, code_entry_on};
 use gu_read_parts::{Stop, read_content};
 use gu_syntax::{Body, Func, Instr};
@@ -26,16 +25,9 @@ const BATCH: usize = 12_288;
 /// How many batches make a round, at most.
 const ROUND: usize = 256;
 
-/// How many batches make a round, at least, where there are as many. Each round takes about half of
-/// what is left, so that little is joined behind the last one.
-const LAST_ROUND: usize = 32;
-
 /// How many bytes of memory are asked for before a batch is read. The C library takes a block of this
 /// size from the memory that small blocks are taken from.
 const ROOM: usize = 114_688;
-
-/// The functions of a batch, or why it has none.
-type Piece = Result<List<Func>, Stop>;
 
 /// The entries of these types, one behind another, at the front of the bytes.
 pub fn read_entries<'a>(
@@ -50,7 +42,9 @@ pub fn read_entries<'a>(
     if bytes.len() <= BATCH {
         return read_run(alloc, tys, bytes);
     }
-    read_rounds(rt, alloc, tys, bytes)
+    let (batches, rest) = find_batches(alloc, tys, bytes)?;
+    let funcs = read_rounds(rt, alloc, tys.len(), batches.as_slice())?;
+    Ok((funcs, rest))
 }
 
 /// The entries of these types, one behind another, read one by one. What one leaves of the room that
@@ -101,13 +95,17 @@ fn read_func<'a>(
     }
 }
 
-/// The first batches that the entries of these types make, for one round. Where an entry's size is not
-/// there the batch that it is in has all that follow.
-fn find_round<'a>(alloc: Global, tys: &'a [u32], bytes: &'a [u8]) -> Result<Round<'a>, AllocError>
-    ensures { IfOk result (λ round. IsRound round tys.now bytes.now) }
+/// The batches that the entries of these types make, and the bytes behind them. Where an entry's size
+/// is not there the batch that it is in has all that follow.
+fn find_batches<'a>(
+    alloc: Global,
+    tys: &'a [u32],
+    bytes: &'a [u8],
+) -> Result<(Vec<Batch<'a>>, &'a [u8]), AllocError>
+    ensures follow { IfOk result (λ x. Follow x.0.items tys.now bytes.now [] x.1.now) }
+    ensures inside { IfOk result (λ x. length x.1.now ≤ length bytes.now) }
 {
-    let most = (bytes.len() / BATCH / 2).max(LAST_ROUND).min(ROUND);
-    let mut batches = Vec::with_capacity(alloc, most)?;
+    let mut batches = Vec::new(alloc);
     let mut tys = tys;
     let mut rest = bytes;
     'batches: while !tys.is_empty() {
@@ -119,11 +117,8 @@ fn find_round<'a>(alloc: Global, tys: &'a [u32], bytes: &'a [u8]) -> Result<Roun
         })?;
         tys = others;
         rest = behind;
-        if most <= batches.len() {
-            return Ok(Round { batches, tys, rest });
-        }
     }
-    Ok(Round { batches, tys, rest })
+    Ok((batches, rest))
 }
 
 /// How many of the entries of these types make the first batch, and the bytes behind it.
@@ -147,62 +142,53 @@ fn pass_batch<'a>(tys: &[u32], bytes: &'a [u8]) -> (usize, &'a [u8])
     (tys.len(), rest)
 }
 
-/// The entries of these types, read in rounds. Room is made at once for as many functions as there are
-/// types.
-fn read_rounds<'a>(
+/// The functions of all batches, or the failure of the first batch that has one. Room is made at once
+/// for as many functions as there are types.
+fn read_rounds(
     rt: &(impl Threads + Sync),
     alloc: Global,
-    tys: &'a [u32],
-    bytes: &'a [u8],
-) -> Result<(List<Func>, &'a [u8]), Stop>
-    ensures value { GivesBy AllStandFor result (entries_at 1000 tys.now bytes.now) }
-    ensures inside { left_of result ≤ length bytes.now }
+    types: usize,
+    batches: &[Batch<'_>],
+) -> Result<List<Func>, Stop>
+    ensures { JoinsAll batches.now result }
 {
-    let mut all: Piece = Ok(no_funcs(alloc, tys.len())?);
-    let mut pieces: Vec<Piece> = Vec::new(alloc);
-    let mut round = find_round(alloc, tys, bytes)?;
-    'rounds: while !round.batches.as_slice().is_empty() {
-        let ((joined, next), read) = read_round(rt, alloc, all, pieces, &round);
+    let mut all: Result<List<Func>, Stop> = Ok(no_funcs(alloc, types)?);
+    let mut pieces: Vec<Result<List<Func>, Stop>> = Vec::new(alloc);
+    'rounds: for these in batches.chunks(ROUND) {
+        let (joined, read) = read_round(rt, alloc, all, pieces, these);
         all = joined;
         pieces = read?;
-        round = next?;
     }
-    let funcs = join_pieces(all, pieces)?;
-    Ok((funcs, round.rest))
+    join_pieces(all, pieces)
 }
 
-/// Joins the pieces of the round before this one and finds the round behind it, and reads this one at
-/// the same time. Where there is nothing to join and to find, no thread is started for it.
-fn read_round<'a, R: Threads + Sync>(
+/// Joins the pieces of the round before, and reads these batches at the same time. Where there are no
+/// pieces, no thread is started for them.
+fn read_round<R: Threads + Sync>(
     rt: &R,
     alloc: Global,
-    all: Piece,
-    pieces: Vec<Piece>,
-    round: &Round<'a>,
+    all: Result<List<Func>, Stop>,
+    pieces: Vec<Result<List<Func>, Stop>>,
+    batches: &[Batch<'_>],
 ) -> (
-    (Piece, Result<Round<'a>, AllocError>),
-    Result<Vec<Piece>, AllocError>,
+    Result<List<Func>, Stop>,
+    Result<Vec<Result<List<Func>, Stop>>, AllocError>,
 )
-    ensures joined { JoinsBehind all pieces.items result.0.0 }
-    ensures found { IfOk result.0.1 (λ next. IsRound next round.now.tys.now round.now.rest.now) }
-    ensures read { IfOk result.1 (λ v. ReadsEach round.now.batches.items v.items) }
+    ensures joined { JoinsBehind all pieces.items result.0 }
+    ensures read { IfOk result.1 (λ v. ReadsEach batches.now v.items) }
 {
-    let batches = round.batches.as_slice();
-    let (tys, rest) = (round.tys, round.rest);
-    if pieces.is_empty() && tys.is_empty() {
-        let read = read_batches(rt, alloc, batches);
-        return ((all, find_round(alloc, tys, rest)), read);
+    if pieces.is_empty() {
+        return (all, read_batches(rt, alloc, batches));
     }
-    let read = || -> Result<Vec<Piece>, AllocError>
+    let read = || -> Result<Vec<Result<List<Func>, Stop>>, AllocError>
         requires { IsSync R.row }
         ensures { IfOk result (λ v. ReadsEach batches.entry.now v.items) }
     { read_batches(rt, alloc, batches) };
     join(
         rt,
-        move || -> (Piece, Result<Round<'_>, AllocError>)
-            ensures joined { JoinsBehind all pieces.items result.0 }
-            ensures found { IfOk result.1 (λ next. IsRound next tys.entry.now rest.entry.now) }
-        { (join_pieces(all, pieces), find_round(alloc, tys, rest)) },
+        move || -> Result<List<Func>, Stop>
+            ensures { JoinsBehind all pieces.items result }
+        { join_pieces(all, pieces) },
         read,
     )
 }
@@ -212,23 +198,23 @@ fn read_batches(
     rt: &(impl Threads + Sync),
     alloc: Global,
     batches: &[Batch<'_>],
-) -> Result<Vec<Piece>, AllocError>
+) -> Result<Vec<Result<List<Func>, Stop>>, AllocError>
     ensures { IfOk result (λ v. ReadsEach batches.now v.items) }
 {
     batches
         .par_iter()
         .with_min_len(1)
         .map(
-            |batch: &Batch<'_>| -> Piece
+            |batch: &Batch<'_>| -> Result<List<Func>, Stop>
                 ensures { ReadsBatch batch.now result }
             { read_batch(alloc, batch) },
         )
-        .collect::<Vec<Piece>>(rt, alloc)
+        .collect::<Vec<Result<List<Func>, Stop>>>(rt, alloc)
 }
 
 /// The functions of a batch. If room were not made at once, a thread would ask the system for each page
 /// that they take, where threads wait for each other.
-fn read_batch(alloc: Global, batch: &Batch<'_>) -> Piece
+fn read_batch(alloc: Global, batch: &Batch<'_>) -> Result<List<Func>, Stop>
     ensures { ReadsBatch batch.now result }
 {
     make_room(alloc);
@@ -245,7 +231,10 @@ fn make_room(alloc: Global) {
 
 /// The functions that are joined already, if none failed, and those of pieces behind them, or the
 /// failure of the first piece that has one.
-fn join_pieces(all: Piece, pieces: Vec<Piece>) -> Piece
+fn join_pieces(
+    all: Result<List<Func>, Stop>,
+    pieces: Vec<Result<List<Func>, Stop>>,
+) -> Result<List<Func>, Stop>
     ensures { JoinsBehind all pieces.items result }
 {
     let mut all = all?.into_vec();

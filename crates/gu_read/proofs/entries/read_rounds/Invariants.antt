@@ -1,13 +1,6 @@
-use Rattle.std.proofs.Common.{◌+◌, ◌≤◌, ◌≡◌, [], length}
+use Rattle.std.specs.Slice.Iter.{chunks_rest}
 use Rattle.gu_read.proofs.Pieces.{Rounds}
 use Rattle.gu_read.proofs.entries.read_rounds.Given as goal
 
 abbrev pub invariant-rounds : goal.invariant-rounds
-invariant-rounds g l = record {
-  rounds : Rounds l.fn.tys l.fn.bytes l.all l.pieces.items l.round.batches.items l.round.tys.now l.round.rest.now;
-  whole : l.round.batches.items ≡ [] → l.round.tys.now ≡ [];
-  inside : length l.round.rest.now ≤ length l.fn.bytes;
-}
-
-abbrev pub decreases-rounds : goal.decreases-rounds
-decreases-rounds g l = length l.round.batches.items + length l.round.tys.now
+invariant-rounds l = λ v. Rounds v.batches v.all v.pieces.items (chunks_rest v.these-iterator)
