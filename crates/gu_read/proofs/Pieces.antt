@@ -1,5 +1,5 @@
 -- Batches that are read apart, and joined.
-use Rattle.std.proofs.Common.{ℕ, ◌+◌, ◌≤◌, ◌≡◌, refl, length-append, inl, inr, ap, ◌∙◌, sym, subst, List, [], ◌∷◌, ◌++◌, append_assoc, length, arith, Result, Ok, Err}
+use Rattle.std.proofs.Common.{ℕ, ◌+◌, ◌<◌, ◌≤◌, ◌≡◌, refl, length-append, inl, inr, ap, ◌∙◌, sym, subst, List, [], ◌∷◌, ◌++◌, append_assoc, length, arith, Result, Ok, Err}
 use Rattle.std.specs.List.{AllZip}
 use Rattle.std.proofs.lemmas.List.{append-nil}
 use Rattle.gu_syntax.specs.declared.module.Func.{Func}
@@ -13,7 +13,7 @@ use Rattle.gu_read_parts.specs.Gives.{Fails, left_at}
 use Rattle.gu_read_parts.proofs.Vectors.{behind}
 use Rattle.gu_read.specs.declared.batches.Batch.{Batch}
 use Rattle.gu_read.specs.Standing.{StandsFor, AllStandFor}
-use Rattle.gu_read.specs.Batches.{EndsAt, Follow, behind_piece, joined_piece, joined, ReadsBatch, Answers, Joins, JoinsBehind, JoinsRead, JoinsAll}
+use Rattle.gu_read.specs.Batches.{EndsAt, Follow, Finds, behind_piece, joined_piece, joined, ReadsBatch, Answers, Joins, JoinsBehind}
 use Rattle.gu_read.proofs.Runs.{zip_append}
 use Rattle.gu_read.proofs.Ends.{entries_append}
 
@@ -21,6 +21,11 @@ use Rattle.gu_read.proofs.Ends.{entries_append}
 pub follow_on : (batches : List Batch) (batch : Batch) (tys text others rest more next : List ℕ) → Follow batches tys text others rest → others ≡ batch.tys.now ++ more → batch.bytes.now ≡ rest → EndsAt batch.tys.now rest next → Follow (batches ++ batch ∷ []) tys text more next
 follow_on [] batch tys text others rest more next h split there ends = (more, next, h.0 ∙ split, there ∙ sym h.1, subst (λ t. EndsAt batch.tys.now t next) (sym h.1) ends, (refl, refl))
 follow_on (first ∷ batches) batch tys text others rest more next h split there ends = (h.0, h.1, h.2, h.3, h.4, follow_on batches batch h.0 h.1 others rest more next h.5 split there ends)
+
+-- more batches behind those
+pub follow_append : (batches more : List Batch) (tys text others rest last next : List ℕ) → Follow batches tys text others rest → Follow more others rest last next → Follow (batches ++ more) tys text last next
+follow_append [] more tys text others rest last next h further = subst (λ t. Follow more tys t last next) (sym h.1) (subst (λ t. Follow more t rest last next) (sym h.0) further)
+follow_append (first ∷ batches) more tys text others rest last next h further = (h.0, h.1, h.2, h.3, h.4, follow_append batches more h.0 h.1 others rest last next h.5 further)
 
 abbrev Reads : List Func → Read (List Func) → List ℕ → Type 0
 Reads held read rest = (funcs : List Func) × AllStandFor held funcs × (read ≡ got funcs rest)
@@ -106,35 +111,29 @@ pub fails_behind_all : (stop : Stop) (pieces : List (Result (List Func) Stop)) �
 fails_behind_all S.NoMemory pieces before joins = tt
 fails_behind_all (S.Refused asked left) pieces before joins = joined_append before pieces ∙ ap (λ r. joined_piece r (joined pieces)) joins
 
--- rounds of batches: the pieces of those that were read are joined, but for those of the last round
-pub record Rounds (batches : List Batch) (all : Result (List Func) Stop) (pieces : List (Result (List Func) Stop)) (left : List Batch) : Type 0 where
+-- rounds of batches: these ones are to be read, and the pieces of those that were read are joined, but for those of the last round
+pub record Rounds (tys text : List ℕ) (all : Result (List Func) Stop) (pieces : List (Result (List Func) Stop)) (these : List Batch) (others rest : List ℕ) : Type 0 where
   pub done : List Batch
   pub before : List (Result (List Func) Stop)
-  pub whole : done ++ left ≡ batches
+  pub follow : Follow (done ++ these) tys text others rest
   pub zip : AllZip ReadsBatch done (before ++ pieces)
   pub joins : Joins before all
+  pub inside : length rest ≤ length text
+  pub some : 0 < length others → 0 < length these
 
-pub rounds_begin : (batches : List Batch) → Rounds batches (Ok []) [] batches
-rounds_begin batches = record { done = []; before = []; whole = refl; zip = tt; joins = refl }
+pub rounds_begin : (tys text others rest : List ℕ) (these : List Batch) → Finds these tys text others rest → Rounds tys text (Ok []) [] these others rest
+rounds_begin tys text others rest these found = record { done = []; before = []; follow = found.follow; zip = tt; joins = refl; inside = found.inside; some = found.some }
 
-pub rounds_on : (batches : List Batch) (all joined : Result (List Func) Stop) (pieces next : List (Result (List Func) Stop)) (left these others : List Batch) → Rounds batches all pieces left → left ≡ these ++ others → JoinsBehind all pieces joined → AllZip ReadsBatch these next → Rounds batches joined next others
-rounds_on batches all joined pieces next left these others h split behind reads = record {
+pub rounds_on : (tys text : List ℕ) (all joined : Result (List Func) Stop) (pieces read : List (Result (List Func) Stop)) (these more : List Batch) (others rest last next : List ℕ) → Rounds tys text all pieces these others rest → JoinsBehind all pieces joined → Finds more others rest last next → AllZip ReadsBatch these read → Rounds tys text joined read more last next
+rounds_on tys text all joined pieces read these more others rest last next h behind found reads = record {
   done = h.done ++ these;
   before = h.before ++ pieces;
-  whole = append_assoc h.done these others ∙ ap (λ l. h.done ++ l) (sym split) ∙ h.whole;
-  zip = zip_append ReadsBatch h.done these (h.before ++ pieces) next h.zip reads;
+  follow = follow_append (h.done ++ these) more tys text others rest last next h.follow found.follow;
+  zip = zip_append ReadsBatch h.done these (h.before ++ pieces) read h.zip reads;
   joins = behind h.before h.joins;
+  inside = let fst = h.inside in let snd = found.inside in omega arith;
+  some = found.some;
 }
-
-all_joined : (batches : List Batch) (result : Result (List Func) Stop) → JoinsRead batches result → JoinsAll batches result
-all_joined batches (Ok funcs) h = h
-all_joined batches (Err S.NoMemory) h = tt
-all_joined batches (Err (S.Refused asked left)) h = h
-
-pub rounds_end : (batches : List Batch) (all : Result (List Func) Stop) (pieces : List (Result (List Func) Stop)) (left : List Batch) (result : Result (List Func) Stop) → Rounds batches all pieces left → left ≡ [] → JoinsBehind all pieces result → JoinsAll batches result
-rounds_end batches all pieces left result h none behind =
-    let same : h.done ≡ batches = sym (append-nil h.done) ∙ ap (λ l. h.done ++ l) (sym none) ∙ h.whole in
-    all_joined batches result (h.before ++ pieces, subst (λ bs. AllZip ReadsBatch bs (h.before ++ pieces)) same h.zip, behind h.before h.joins)
 
 -- what is joined is what the entries are read as
 joins_gives : (pieces : List (Result (List Func) Stop)) (result : Result (List Func) Stop) (read : Read (List Func)) (rest : List ℕ) → Joins pieces result → Gives (joined pieces) read rest → Gives result read rest
@@ -142,13 +141,15 @@ joins_gives pieces (Ok funcs) read rest joins h = subst (λ r. Gives r read rest
 joins_gives pieces (Err S.NoMemory) read rest joins h = tt
 joins_gives pieces (Err (S.Refused asked left)) read rest joins h = subst (λ r. Gives r read rest) joins h
 
-read_gives : (batches : List Batch) (result : Result (List Func) Stop) (tys text rest : List ℕ) → Follow batches tys text [] rest → JoinsRead batches result → Gives result (entries_at 1000 tys text) rest
-read_gives batches result tys text rest follow h = joins_gives h.0 result (entries_at 1000 tys text) rest h.2 (batches_joined batches h.0 tys text rest follow h.1)
+none_left : (others : List ℕ) → (0 < length others → 0 < 0) → others ≡ []
+none_left [] h = refl
+none_left (ty ∷ others) h = absurd (let past = h (omega arith) in omega arith)
 
-pub joined_gives : (batches : List Batch) (result : Result (List Func) Stop) (tys text rest : List ℕ) → Follow batches tys text [] rest → JoinsAll batches result → Gives result (entries_at 1000 tys text) rest
-joined_gives batches (Ok funcs) tys text rest follow h = read_gives batches (Ok funcs) tys text rest follow h
-joined_gives batches (Err S.NoMemory) tys text rest follow h = tt
-joined_gives batches (Err (S.Refused asked left)) tys text rest follow h = read_gives batches (Err (S.Refused asked left)) tys text rest follow h
+pub rounds_end : (tys text : List ℕ) (all result : Result (List Func) Stop) (pieces : List (Result (List Func) Stop)) (these : List Batch) (others rest : List ℕ) → Rounds tys text all pieces these others rest → these ≡ [] → JoinsBehind all pieces result → Gives result (entries_at 1000 tys text) rest
+rounds_end tys text all result pieces these others rest h none behind =
+    let some : 0 < length others → 0 < 0 = λ m. subst (λ l. 0 < length l) none (h.some m) in
+    let whole : Follow h.done tys text [] rest = subst (λ l. Follow l tys text [] rest) (append-nil h.done) (subst (λ l. Follow (h.done ++ l) tys text [] rest) none (subst (λ l. Follow (h.done ++ these) tys text l rest) (none_left others some) h.follow)) in
+    joins_gives (h.before ++ pieces) result (entries_at 1000 tys text) rest (behind h.before h.joins) (batches_joined h.done (h.before ++ pieces) tys text rest whole h.zip)
 
 -- reading entries stops within the text
 func_reads : (ty : ℕ) → Decodes 0 (FuncOf ty) (func_at 1000 ty)

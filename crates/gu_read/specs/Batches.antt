@@ -1,5 +1,5 @@
 -- Code entries in batches, which are read apart and joined in order.
-use Rattle.std.specs.Prelude.{ℕ, ◌≡◌, List, [], ◌∷◌, ◌++◌, Result, Ok, Err}
+use Rattle.std.specs.Prelude.{ℕ, ◌≡◌, ◌+◌, ◌<◌, ◌≤◌, List, [], ◌∷◌, ◌++◌, length, Result, Ok, Err}
 use Rattle.gu_syntax.specs.declared.module.Func.{Func}
 use Rattle.gu_syntax.specs.Reading.{got, entries_at}
 use Rattle.std.specs.List.{AllZip}
@@ -16,6 +16,13 @@ pub record EndsAt (tys text rest : List ℕ) : Type 0 where
 abbrev pub Follow : List Batch → (tys text others rest : List ℕ) → Type 0
 Follow [] tys text others rest = (tys ≡ others) × (text ≡ rest)
 Follow (batch ∷ batches) tys text others rest = (more middle : List ℕ) × (tys ≡ batch.tys.now ++ more) × (batch.bytes.now ≡ text) × EndsAt batch.tys.now text middle × Follow batches more middle others rest
+
+-- batches of the first of these types, at the front of the text, and what is left behind them: none only where no type is
+pub record Finds (batches : List Batch) (tys text others rest : List ℕ) : Type 0 where
+  pub follow : Follow batches tys text others rest
+  pub inside : length rest ≤ length text
+  pub fewer : length batches + length others ≤ length tys
+  pub some : 0 < length others → 0 < length batches
 
 -- the functions of a piece before those of the pieces behind it, or the failure of the first piece that has one
 abbrev pub behind_piece : List Func → Result (List Func) Stop → Result (List Func) Stop
@@ -50,12 +57,3 @@ ReadsBatch batch piece = GivesFront AllStandFor piece (entries_at 1000 batch.tys
 
 abbrev pub ReadsEach : List Batch → List (Result (List Func) Stop) → Type 0
 ReadsEach batches pieces = AllZip ReadsBatch batches pieces
-
--- what the grammar reads in each batch is joined, or there is no memory for it
-abbrev pub JoinsRead : List Batch → Result (List Func) Stop → Type 0
-JoinsRead batches result = (pieces : List (Result (List Func) Stop)) × ReadsEach batches pieces × Joins pieces result
-
-abbrev pub JoinsAll : List Batch → Result (List Func) Stop → Type 0
-JoinsAll batches (Ok funcs) = JoinsRead batches (Ok funcs)
-JoinsAll batches (Err S.NoMemory) = Unit {0}
-JoinsAll batches (Err (S.Refused asked left)) = JoinsRead batches (Err (S.Refused asked left))

@@ -1,19 +1,21 @@
 //! The entries of the code section, read in parallel (core specification 3.0, 5.5.13 Code Section).
 //! They are found by their sizes first, in batches of about equal bytes, so that many small ones are
 //! not a task each. Batches are read in rounds, and while a round is read the functions of the round
-//! before it are joined to those that stand before them. The first failure in order is answered.
+//! before it are joined to those that stand before them, and the batches of the next one are found.
+//! The first failure in order is answered. Where there is one processor, entries are read one by one.
 ghost use Rattle.std.specs.Prelude.{◌≡◌, ◌+◌, ◌<◌, ◌≤◌, [], take, length, IfOk};
 ghost use Rattle.std.specs.Thread.{IsSync};
 ghost use Rattle.gu_syntax.specs.Reading.{func_at, entries_at};
 ghost use Rattle.gu_read_parts.specs.Gives.{left_of, left_at};
 ghost use Rattle.gu_read.specs.Standing.{StandsFor, AllStandFor, GivesBy};
-ghost use Rattle.gu_read.specs.Batches.{EndsAt, Follow, ReadsBatch, ReadsEach, JoinsBehind, JoinsAll};
+ghost use Rattle.gu_read.specs.Batches.{EndsAt, Finds, ReadsBatch, ReadsEach, JoinsBehind};
 
-use crate::batches::Batch;
+use crate::batches::{Batch, Round};
 use gu_read_code::{Entry, code_entry_on};
 use gu_read_parts::{Stop, read_content};
 use gu_syntax::{Body, Func, Instr};
 use gu_types::{List, ValType};
+use rayon::current_num_threads;
 use rayon::prelude::*;
 use std::alloc::{AllocError, Global};
 use std::thread::{Threads, join};
@@ -23,7 +25,7 @@ use std::thread::{Threads, join};
 const BATCH: usize = 12_288;
 
 /// How many batches make a round, at most.
-const ROUND: usize = 256;
+const ROUND: usize = 512;
 
 /// How many bytes of memory are asked for before a batch is read. The C library takes a block of this
 /// size from the memory that small blocks are taken from.
@@ -39,12 +41,10 @@ pub fn read_entries<'a>(
     ensures value { GivesBy AllStandFor result (entries_at 1000 tys.now bytes.now) }
     ensures inside { left_of result ≤ length bytes.now }
 {
-    if bytes.len() <= BATCH {
+    if bytes.len() <= BATCH || current_num_threads(rt) < 2 {
         return read_run(alloc, tys, bytes);
     }
-    let (batches, rest) = find_batches(alloc, tys, bytes)?;
-    let funcs = read_rounds(rt, alloc, tys.len(), batches.as_slice())?;
-    Ok((funcs, rest))
+    read_rounds(rt, alloc, tys, bytes)
 }
 
 /// The entries of these types, one behind another, read one by one. What one leaves of the room that
@@ -95,20 +95,15 @@ fn read_func<'a>(
     }
 }
 
-/// The batches that the entries of these types make, and the bytes behind them. Where an entry's size
-/// is not there the batch that it is in has all that follow.
-fn find_batches<'a>(
-    alloc: Global,
-    tys: &'a [u32],
-    bytes: &'a [u8],
-) -> Result<(Vec<Batch<'a>>, &'a [u8]), AllocError>
-    ensures follow { IfOk result (λ x. Follow x.0.items tys.now bytes.now [] x.1.now) }
-    ensures inside { IfOk result (λ x. length x.1.now ≤ length bytes.now) }
+/// The first batches that the entries of these types make, as many as a round has or all. Where an
+/// entry's size is not there the batch that it is in has all that follow.
+fn find_round<'a>(alloc: Global, tys: &'a [u32], bytes: &'a [u8]) -> Result<Round<'a>, AllocError>
+    ensures { IfOk result (λ round. Finds round.batches.items tys.now bytes.now round.tys.now round.rest.now) }
 {
     let mut batches = Vec::new(alloc);
     let mut tys = tys;
     let mut rest = bytes;
-    'batches: while !tys.is_empty() {
+    'batches: while !tys.is_empty() && batches.len() < ROUND {
         let (count, behind) = pass_batch(tys, rest);
         let (these, others) = tys.split_at(count);
         batches.push(Batch {
@@ -118,7 +113,7 @@ fn find_batches<'a>(
         tys = others;
         rest = behind;
     }
-    Ok((batches, rest))
+    Ok(Round { batches, tys, rest })
 }
 
 /// How many of the entries of these types make the first batch, and the bytes behind it.
@@ -142,55 +137,63 @@ fn pass_batch<'a>(tys: &[u32], bytes: &'a [u8]) -> (usize, &'a [u8])
     (tys.len(), rest)
 }
 
-/// The functions of all batches, or the failure of the first batch that has one. Room is made at once
-/// for as many functions as there are types.
-fn read_rounds(
+/// The entries of these types, one behind another, read in rounds. Room is made at once for as many
+/// functions as there are types.
+fn read_rounds<'a>(
     rt: &(impl Threads + Sync),
     alloc: Global,
-    types: usize,
-    batches: &[Batch<'_>],
-) -> Result<List<Func>, Stop>
-    ensures { JoinsAll batches.now result }
+    tys: &'a [u32],
+    bytes: &'a [u8],
+) -> Result<(List<Func>, &'a [u8]), Stop>
+    ensures value { GivesBy AllStandFor result (entries_at 1000 tys.now bytes.now) }
+    ensures inside { left_of result ≤ length bytes.now }
 {
-    let mut all: Result<List<Func>, Stop> = Ok(no_funcs(alloc, types)?);
+    let mut all: Result<List<Func>, Stop> = Ok(no_funcs(alloc, tys.len())?);
     let mut pieces: Vec<Result<List<Func>, Stop>> = Vec::new(alloc);
-    'rounds: for these in batches.chunks(ROUND) {
-        let (joined, read) = read_round(rt, alloc, all, pieces, these);
+    let mut round = find_round(alloc, tys, bytes)?;
+    'rounds: while !round.batches.is_empty() {
+        let (joined, next, read) = read_round(rt, alloc, all, pieces, &round);
         all = joined;
         pieces = read?;
+        round = next?;
     }
-    join_pieces(all, pieces)
+    let funcs = join_pieces(all, pieces)?;
+    Ok((funcs, round.rest))
 }
 
-/// Joins the pieces of the round before, and reads these batches at the same time. Where there are no
-/// pieces, no thread is started for them.
-fn read_round<R: Threads + Sync>(
+/// Reads the batches of a round, and at the same time joins the pieces of the round before and finds
+/// the next round.
+fn read_round<'a, R: Threads + Sync>(
     rt: &R,
     alloc: Global,
     all: Result<List<Func>, Stop>,
     pieces: Vec<Result<List<Func>, Stop>>,
-    batches: &[Batch<'_>],
+    round: &Round<'a>,
 ) -> (
     Result<List<Func>, Stop>,
+    Result<Round<'a>, AllocError>,
     Result<Vec<Result<List<Func>, Stop>>, AllocError>,
 )
     ensures joined { JoinsBehind all pieces.items result.0 }
-    ensures read { IfOk result.1 (λ v. ReadsEach batches.now v.items) }
+    ensures next { IfOk result.1 (λ next. Finds next.batches.items round.now.tys.now round.now.rest.now next.tys.now next.rest.now) }
+    ensures read { IfOk result.2 (λ v. ReadsEach round.now.batches.items v.items) }
 {
-    if pieces.is_empty() {
-        return (all, read_batches(rt, alloc, batches));
-    }
+    let batches = round.batches.as_slice();
+    let tys = round.tys;
+    let rest = round.rest;
     let read = || -> Result<Vec<Result<List<Func>, Stop>>, AllocError>
         requires { IsSync R.row }
         ensures { IfOk result (λ v. ReadsEach batches.entry.now v.items) }
     { read_batches(rt, alloc, batches) };
-    join(
+    let ((joined, next), read) = join(
         rt,
-        move || -> Result<List<Func>, Stop>
-            ensures { JoinsBehind all pieces.items result }
-        { join_pieces(all, pieces) },
+        move || -> (Result<List<Func>, Stop>, Result<Round<'_>, AllocError>)
+            ensures joined { JoinsBehind all pieces.items result.0 }
+            ensures next { IfOk result.1 (λ next. Finds next.batches.items tys.entry.now rest.entry.now next.tys.now next.rest.now) }
+        { (join_pieces(all, pieces), find_round(alloc, tys, rest)) },
         read,
-    )
+    );
+    (joined, next, read)
 }
 
 /// The functions of each batch.
