@@ -5,9 +5,12 @@
 //! - `check N`: it is read, and its validity is looked at N times;
 //! - `write N`: it is read, and its least spelling is made N times;
 //! - `types N`: it is read, its types are interned, and N subtype queries are asked;
+//! - `clock read N` and `clock write N`: it is read, or its least spelling is made, N times, and a line
+//!   for each turn says the nanoseconds that this took by the clock;
 //! - `copy`: its least spelling goes to the standard output.
 //!
-//! Each step is done once at least, but for the queries. A line says what was found, but for `copy`.
+//! Each step is done once at least, but for the queries and what is timed. A line says what was found,
+//! but for what is timed and for `copy`.
 //! With `lines` each line of the standard input is a name and a module in hexadecimal digits, and a
 //! line says of each whether it is valid, or why it is not. What else is refused is said on the
 //! standard error, and the status is 1.
@@ -18,6 +21,7 @@ mod lines;
 mod steps;
 #[cfg(test)]
 mod tests;
+mod turns;
 mod work;
 
 use anyhow::Context;
@@ -27,6 +31,7 @@ use std::alloc::{AllocError, Global};
 use std::thread::Threads;
 use std::{env, io};
 use steps::{Found, run};
+use turns::time_turns;
 use work::{Work, work_of};
 
 /// The most bytes that a module may have.
@@ -36,14 +41,18 @@ fn main(rt: HostRuntime) -> anyhow::Result<()> {
     let arguments = arguments(&rt)?;
     let words = words_of(rt.alloc(), &arguments)?;
     let work = work_of(words.as_slice()).context(
-        "the words are: read N, check N, write N, types N, copy, or lines",
+        "the words are: read N, check N, write N, types N, clock read N, clock write N, copy, or lines",
     )?;
-    let Work::Step(step) = work else {
-        return answer_lines(&rt);
-    };
-    let bytes = read_to_limit(rt.alloc(), &mut StdSource::new(rt.stdin()), INPUT_LIMIT)?;
-    let found = run(&rt, rt.alloc(), step, bytes.as_slice())?;
-    show(&rt, &found)
+    match work {
+        Work::Step(step) => show(&rt, &run(&rt, rt.alloc(), step, input(&rt)?.as_slice())?),
+        Work::Timed(timed) => time_turns(&rt, rt.alloc(), timed, input(&rt)?.as_slice()),
+        Work::Lines => answer_lines(&rt),
+    }
+}
+
+/// The bytes of the input.
+fn input(rt: &HostRuntime) -> anyhow::Result<Vec<u8>> {
+    Ok(read_to_limit(rt.alloc(), &mut StdSource::new(rt.stdin()), INPUT_LIMIT)?)
 }
 
 /// Says of the module on each line whether it is valid.

@@ -3,6 +3,7 @@ ghost use Rattle.std.specs.Prelude.{◌≤◌};
 
 use crate::error::StepErr;
 use crate::steps::{check_times, copied, read_times};
+use crate::work::{Step, Timed, Work, work_of};
 use gu_bytes::{put_s32, put_u32};
 use gu_model::Part;
 use gu_read_parts::{ReadErr, Which};
@@ -199,5 +200,18 @@ fn batches_stay_in_order(rt: HostRuntime) -> Result<(), Fail> {
     let text = module_of(alloc, 30_000, entries.as_slice())?;
     assert!(rt; text.len() > 3 * 65_536);
     assert!(rt; becomes(&rt, alloc, text.as_slice(), text.as_slice())?);
+    Ok(())
+}
+
+#[test]
+fn words_ask_for_work(rt: HostRuntime) -> Result<(), Fail> {
+    assert_eq!(rt; work_of(&["read", "3"]), Some(Work::Step(Step::Read(3))));
+    assert_eq!(rt;
+        work_of(&["clock", "write", "2"]),
+        Some(Work::Timed(Timed::Write(2)))
+    );
+    assert_eq!(rt; work_of(&["lines"]), Some(Work::Lines));
+    assert_eq!(rt; work_of(&["clock", "check", "2"]), None);
+    assert_eq!(rt; work_of(&["write", "many"]), None);
     Ok(())
 }

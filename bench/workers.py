@@ -1,0 +1,61 @@
+#!/usr/bin/env python3
+"""Times reading and writing by the clock, on one processor and on more.
+
+Usage: bench/workers.py [--cores N] [--size BYTES] [--runs N] [--kinds NAME,..] [PROGRAM]
+       (default: 4 processors, 16000000, 7 runs, many small functions and object code,
+       crates/gu_steps_main/out/gu_steps_main, as `rt run` in that crate builds it)
+
+Prints, for each kind of module (bench/modules.py), the milliseconds that reading and writing take on
+one processor and on so many, and how many times as fast the latter is. The runs on one and on more
+take turns, and the middle of them all counts: first for the first turn in a process, whose memory
+nobody touched before, then for the turns behind it. What is dropped between turns is left out.
+"""
+import argparse
+from statistics import median
+
+from measure import built, run
+from modules import KINDS
+
+STEPS = ("read", "write")
+# How many turns a run has.
+TURNS = 5
+
+
+def turns(program, step, text, cores):
+    """The milliseconds of each turn of a step in one run."""
+    ran = run([program, "clock", step, str(TURNS)], text, cores)
+    if ran.status != 0:
+        raise SystemExit(f"{program} refused the module with status {ran.status}")
+    return [int(line) / 1e6 for line in ran.output.split()]
+
+
+def middle(runs):
+    """The middle of the first turns, and of the further ones."""
+    return median(ran[0] for ran in runs), median(time for ran in runs for time in ran[1:])
+
+
+def main():
+    parser = argparse.ArgumentParser()
+    parser.add_argument("--cores", type=int, default=4)
+    parser.add_argument("--size", type=int, default=16_000_000)
+    parser.add_argument("--runs", type=int, default=7)
+    parser.add_argument("--kinds", default="many small functions,object code")
+    parser.add_argument("program", nargs="?", default=built("gu_steps_main"))
+    asked = parser.parse_args()
+    print(f"{'kind':24}{'step':8}{'turn':9}{'1 ms':>8}{f'{asked.cores} ms':>8}{'ratio':>7}")
+    for kind in asked.kinds.split(","):
+        text = KINDS[kind](asked.size)
+        for step in STEPS:
+            one, more = [], []
+            for _ in range(asked.runs):
+                one.append(turns(asked.program, step, text, 1))
+                more.append(turns(asked.program, step, text, asked.cores))
+            for turn, alone, together in zip(("first", "further"), middle(one), middle(more)):
+                print(
+                    f"{kind:24}{step:8}{turn:9}{alone:8.1f}{together:8.1f}{alone / together:7.2f}",
+                    flush=True,
+                )
+
+
+if __name__ == "__main__":
+    main()
