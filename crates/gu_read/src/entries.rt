@@ -21,15 +21,16 @@ use std::alloc::{AllocError, Global};
 use std::thread::{Threads, join};
 
 /// How many bytes of entries make a batch, at least, but for the last one: so few that what small
-/// functions of as many bytes take has room in `ROOM` for the most part.
-const BATCH: usize = 12_288;
+/// functions of as many bytes take has room in `ROOM`.
+const BATCH: usize = 49_152;
 
 /// How many batches make a round, at most.
-const ROUND: usize = 512;
+const ROUND: usize = 128;
 
-/// How many bytes of memory are asked for before a batch is read. The C library takes a block of this
-/// size from the memory that small blocks are taken from.
-const ROOM: usize = 114_688;
+/// How many bytes of memory are asked for before a batch is read. The C library maps the first such
+/// block by itself, and once that was given back it takes such blocks from the memory that small blocks
+/// are taken from.
+const ROOM: usize = 1_048_576;
 
 /// The entries of these types, one behind another, at the front of the bytes.
 pub fn read_entries<'a>(
