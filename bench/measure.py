@@ -40,12 +40,18 @@ def watch(process):
         time.sleep(0.001)
 
 
+def chosen(cores):
+    """So many of the processors, from the first one on, or those with the indices in a list."""
+    there = sorted(os.sched_getaffinity(0))
+    return there[:cores] if isinstance(cores, int) else [there[index] for index in cores]
+
+
 def run(command, text, cores=None):
-    """Runs a command with these bytes as its input, on so many processors."""
+    """Runs a command with these bytes as its input, on so many processors or on those in a list."""
 
     def settle():
         if cores is not None:
-            os.sched_setaffinity(0, sorted(os.sched_getaffinity(0))[:cores])
+            os.sched_setaffinity(0, chosen(cores))
 
     with tempfile.TemporaryFile() as source, tempfile.TemporaryFile() as sink:
         source.write(text)

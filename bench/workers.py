@@ -6,11 +6,14 @@ Usage: bench/workers.py [--cores N] [--size BYTES] [--runs N] [--kinds NAME,..] 
        crates/gu_steps_main/out/gu_steps_main, as `rt run` in that crate builds it)
 
 Prints, for each kind of module (bench/modules.py), the milliseconds that reading and writing take on
-one processor and on so many, and how many times as fast the latter is. The runs on one and on more
-take turns, and the middle of them all counts: first for the first turn in a process, whose memory
-nobody touched before, then for the turns behind it. What is dropped between turns is left out.
+one processor and on so many, and how many times as fast the latter is; and how many times as much as
+one alone so many programs at once do there, each on a processor of its own, which is as much as can
+be hoped for. The runs take turns, each time with another one alone, and the middle of them all
+counts: first for the first turn in a process, whose memory nobody touched before, then for the turns
+behind it. What is dropped between turns is left out.
 """
 import argparse
+from concurrent.futures import ThreadPoolExecutor
 from statistics import median
 
 from measure import built, run
@@ -29,9 +32,26 @@ def turns(program, step, text, cores):
     return [int(line) / 1e6 for line in ran.output.split()]
 
 
+def at_once(program, step, text, cores):
+    """The milliseconds of each turn of a step, for each of so many programs at once."""
+    with ThreadPoolExecutor(cores) as pool:
+        return list(pool.map(lambda index: turns(program, step, text, [index]), range(cores)))
+
+
 def middle(runs):
     """The middle of the first turns, and of the further ones."""
     return median(ran[0] for ran in runs), median(time for ran in runs for time in ran[1:])
+
+
+def measured(program, step, text, cores, times):
+    """The middle of the turns on one processor, of those of so many programs at once, and of those
+    on so many processors, from so many runs of each."""
+    alone, together, threads = [], [], []
+    for index in range(times):
+        alone.append(turns(program, step, text, [index % cores]))
+        together += at_once(program, step, text, cores)
+        threads.append(turns(program, step, text, cores))
+    return zip(middle(alone), middle(together), middle(threads))
 
 
 def main():
@@ -42,17 +62,16 @@ def main():
     parser.add_argument("--kinds", default="many small functions,object code")
     parser.add_argument("program", nargs="?", default=built("gu_steps_main"))
     asked = parser.parse_args()
-    print(f"{'kind':24}{'step':8}{'turn':9}{'1 ms':>8}{f'{asked.cores} ms':>8}{'ratio':>7}")
+    cores = asked.cores
+    print(f"{'kind':24}{'step':8}{'turn':9}{'1 ms':>8}{f'{cores} ms':>8}{'ratio':>7}{'at once':>9}")
     for kind in asked.kinds.split(","):
         text = KINDS[kind](asked.size)
         for step in STEPS:
-            one, more = [], []
-            for _ in range(asked.runs):
-                one.append(turns(asked.program, step, text, 1))
-                more.append(turns(asked.program, step, text, asked.cores))
-            for turn, alone, together in zip(("first", "further"), middle(one), middle(more)):
+            rows = measured(asked.program, step, text, cores, asked.runs)
+            for turn, (alone, together, threads) in zip(("first", "further"), rows):
                 print(
-                    f"{kind:24}{step:8}{turn:9}{alone:8.1f}{together:8.1f}{alone / together:7.2f}",
+                    f"{kind:24}{step:8}{turn:9}{alone:8.1f}{threads:8.1f}{alone / threads:7.2f}"
+                    f"{cores * alone / together:9.2f}",
                     flush=True,
                 )
 
