@@ -3,7 +3,8 @@
 
 Usage: bench/workers.py [--cores N] [--size BYTES] [--runs N] [--kinds NAME,..] [PROGRAM]
        (default: 4 processors, 16000000, 7 runs, many small functions and object code,
-       crates/gu_steps_main/out/gu_steps_main, as `rt run` in that crate builds it)
+       crates/gu_steps_main/out/gu_steps_main, as `rt run` in that crate builds it; no more
+       processors than there are)
 
 Prints, for each kind of module (bench/modules.py), the milliseconds that reading and writing take on
 one processor and on so many, and how many times as fast the latter is; and how many times as much as
@@ -13,6 +14,7 @@ counts: first for the first turn in a process, whose memory nobody touched befor
 behind it. What is dropped between turns is left out.
 """
 import argparse
+import os
 from concurrent.futures import ThreadPoolExecutor
 from statistics import median
 
@@ -62,7 +64,7 @@ def main():
     parser.add_argument("--kinds", default="many small functions,object code")
     parser.add_argument("program", nargs="?", default=built("gu_steps_main"))
     asked = parser.parse_args()
-    cores = asked.cores
+    cores = min(asked.cores, len(os.sched_getaffinity(0)))
     print(f"{'kind':24}{'step':8}{'turn':9}{'1 ms':>8}{f'{cores} ms':>8}{'ratio':>7}{'at once':>9}")
     for kind in asked.kinds.split(","):
         text = KINDS[kind](asked.size)
