@@ -3,3 +3,4 @@ pub mod Holding
 pub mod Lists
 pub mod Names
 pub mod Lacks
+pub mod Unnamed

@@ -1,5 +1,5 @@
 //! The bodies of functions (core specification 3.0, 3.5 Modules, functions).
-ghost use Rattle.std.specs.Prelude.{◌≡◌, ◌&&◌, not, false, length, map, IfOk};
+ghost use Rattle.std.specs.Prelude.{◌≡◌, ◌==◌, ◌&&◌, not, false, length, map, IfOk};
 ghost use Rattle.std.specs.List.{list_any};
 ghost use Rattle.gu_model.specs.ValidContext.{body_of, needs_count_body};
 ghost use Rattle.gu_model.specs.Typing.{is_typed_func};
@@ -28,14 +28,15 @@ impl<'m> Facts<'m> {
         check_code_in(alloc, &self.env, workspace, func)
     }
 
-    /// Whether the number of data segments is not said before the code and a body needs it.
+    /// Whether there are data segments, whose number is not said before the code, and a body needs it.
+    /// Where there are none, a body that needs it is not typed.
     fn lacks_count(&self, func: &Func) -> bool
-        ensures { result ≡ (not self.now.module.now.has_count && needs_count_body (body_of func.now)) }
+        ensures { result ≡ (not self.now.module.now.has_count && (not (length self.now.module.now.segs == 0) && needs_count_body (body_of func.now))) }
     {
-        !self.module.has_count && func_needs(func)
+        !self.module.has_count && !self.module.segs.as_slice().is_empty() && func_needs(func)
     }
 
-    /// Whether that number is not said before the code and one of the bodies needs it.
+    /// Whether the number of data segments is not said before the code and one of the bodies needs it.
     fn any_lacks_count(&self, funcs: &[Func]) -> bool
         ensures { result ≡ (not self.now.module.now.has_count && list_any needs_count_body (map body_of funcs.now)) }
     {
@@ -58,8 +59,8 @@ impl<'m> Facts<'m> {
             }
             let holds = self.func_holds(alloc, &mut workspace, func)?;
             if !holds {
-                let behind = &self.module.funcs.as_slice()[number + 1..];
-                return Ok((self.any_lacks_count(behind), Some(number as u32)));
+                let left = &self.module.funcs.as_slice()[number..];
+                return Ok((self.any_lacks_count(left), Some(number as u32)));
             }
         }
         Ok((false, None))
