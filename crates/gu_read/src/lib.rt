@@ -14,5 +14,6 @@ mod sections;
 mod seen;
 #[cfg(test)]
 mod tests;
+mod weighed;
 
 pub use reader::read_module;

@@ -1,18 +1,17 @@
 //! The limits on the parts of a module, in their order.
-ghost use Rattle.std.specs.Prelude.{◌≡◌, ◌<◌, ◌≤◌, [], ◌∷◌, ℕ, List, map, length, count_by, sum_by, IfOk, None};
+ghost use Rattle.std.specs.Prelude.{◌≡◌, ◌<◌, ◌≤◌, [], ◌∷◌, ℕ, List, map, length, count_by, IfOk, None};
 ghost use Rattle.gu_types.specs.declared.types.SubType.{SubType};
 ghost use Rattle.gu_read.specs.Limits.{is_func, is_global, funcs_in, globals_in};
 ghost use Rattle.gu_read.specs.Limits.{locals_of, first_above, exceeded_or, exceeded};
-ghost use Rattle.gu_read.specs.Rows.{capped, weight, first_rows, type_rows, local_rows, depth_rows};
+ghost use Rattle.gu_read.specs.Rows.{first_rows, type_rows, local_rows, depth_rows};
 ghost use Rattle.gu_read.specs.Seen.{Sees};
 ghost use Rattle.gu_read.specs.Limits as L;
 
 use crate::seen::{Seen, see_types};
+use crate::weighed::{WeighedModule, locals_up_to};
 use gu_read_parts::Which;
 use gu_syntax::{Desc, Func, Import, Module};
-use rayon::prelude::*;
 use std::alloc::{AllocError, Global};
-use std::thread::Threads;
 
 /// A limit that is exceeded, and what is answered with it.
 type Exceeded = Option<(Which, u64)>;
@@ -20,13 +19,10 @@ type Exceeded = Option<(Which, u64)>;
 /// The first limit on its parts that a module exceeds, and what is answered with it: the count, or the
 /// index of the first type or defined function that exceeds it. `AllocError` only where memory is
 /// refused.
-pub fn first_exceeded(
-    rt: &(impl Threads + Sync),
-    alloc: Global,
-    module: &Module,
-) -> Result<Exceeded, AllocError>
-    ensures { IfOk result (λ found. found ≡ exceeded «module».now) }
+pub fn first_exceeded(alloc: Global, weighed: &WeighedModule) -> Result<Exceeded, AllocError>
+    ensures { IfOk result (λ found. found ≡ exceeded weighed.now) }
 {
+    let module = weighed.get();
     let seen = see_types(alloc, module.types.groups.as_slice())?;
     if let Some(found) = count_limit(seen.depths.as_slice().len(), module) {
         return Ok(Some(found));
@@ -34,7 +30,7 @@ pub fn first_exceeded(
     if let Some(found) = type_limit(&seen) {
         return Ok(Some(found));
     }
-    if let Some(found) = weighed_limit(rt, alloc, module.funcs.as_slice())? {
+    if let Some(found) = weighed_limit(alloc, weighed)? {
         return Ok(Some(found));
     }
     Ok(depth_limit(&seen))
@@ -125,18 +121,14 @@ fn or_later(which: Which, found: Option<usize>, later: Exceeded) -> Exceeded
 
 /// The limits on the locals of a function and of all. They are looked at one by one only where one is
 /// exceeded.
-fn weighed_limit(
-    rt: &(impl Threads + Sync),
-    alloc: Global,
-    funcs: &[Func],
-) -> Result<Exceeded, AllocError>
-    requires { length funcs.now ≤ 1000000 }
-    ensures { IfOk result (λ found. found ≡ L.first_exceeded (local_rows funcs.now)) }
+fn weighed_limit(alloc: Global, weighed: &WeighedModule) -> Result<Exceeded, AllocError>
+    requires { length weighed.now.funcs ≤ 1000000 }
+    ensures { IfOk result (λ found. found ≡ L.first_exceeded (local_rows weighed.now.funcs)) }
 {
-    if weigh_all(rt, funcs) <= 4_000_000 {
+    if weighed.weight() <= 4_000_000 {
         return Ok(None);
     }
-    local_limit(alloc, funcs)
+    local_limit(alloc, weighed.get().funcs.as_slice())
 }
 
 /// The limits on the locals of a function and of all.
@@ -158,45 +150,4 @@ fn local_limit(alloc: Global, funcs: &[Func]) -> Result<Exceeded, AllocError>
         return Ok(Some((Which::ModuleLocals, total as u64)));
     }
     Ok(None)
-}
-
-/// The weights of all functions, added up in parallel.
-fn weigh_all(rt: &(impl Threads + Sync), funcs: &[Func]) -> u64
-    requires { length funcs.now ≤ 1000000 }
-    ensures { result ≡ sum_by (λ func. weight (locals_of func)) funcs.now }
-{
-    funcs
-        .par_iter()
-        .map(
-            |func: &Func| -> u64
-                ensures { result ≡ weight (locals_of func.now) }
-            { weigh(func) },
-        )
-        .sum::<u64>(rt)
-}
-
-/// How many locals a function has, or more than all functions may have where it has too many.
-fn weigh(func: &Func) -> u64
-    ensures { result ≡ weight (locals_of func.now) }
-{
-    let count = locals_up_to(func);
-    if 50_000 < count {
-        return 4_000_001;
-    }
-    count as u64
-}
-
-/// The locals of a function, or 50,001 where there are more.
-fn locals_up_to(func: &Func) -> usize
-    ensures { result ≡ capped (locals_of func.now) }
-{
-    let mut count = 0;
-    let runs = func.locals.as_slice();
-    'runs: for run in runs {
-        count += run.0 as usize;
-        if 50_000 < count {
-            return 50_001;
-        }
-    }
-    count
 }

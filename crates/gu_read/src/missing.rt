@@ -9,7 +9,7 @@ impl Late {
     pub fn is_missing(&self, tys: &[u32]) -> bool
         ensures { result ≡ is_missing_in tys.now self.now }
     {
-        if self.funcs.as_slice().len() < tys.len() {
+        if self.funcs.len() < tys.len() {
             return true;
         }
         match self.said {

@@ -9,6 +9,7 @@ use crate::elems::Elems;
 use crate::items::{Exports, Globals, Imports, Memories, Tables, Tags};
 use crate::parts::{Late, Middle};
 use crate::sections::{pass_customs, pass_header, read_code, read_data, read_list, read_number};
+use crate::weighed::WeighedModule;
 use gu_read_parts::{Asked, Index, Stop};
 use gu_read_types::Groups;
 use gu_syntax::{Import, Module};
@@ -17,7 +18,11 @@ use std::alloc::Global;
 use std::thread::Threads;
 
 /// The module that the bytes spell, or where reading stops.
-pub fn read_whole(rt: &(impl Threads + Sync), alloc: Global, bytes: &[u8]) -> Result<Module, Stop>
+pub fn read_whole(
+    rt: &(impl Threads + Sync),
+    alloc: Global,
+    bytes: &[u8],
+) -> Result<WeighedModule, Stop>
     ensures value { GivesAllBy StandsForModule result (module_at 1000 bytes.now) }
     ensures inside { IfErr result (λ stop. left_at stop ≤ length bytes.now) }
 {
@@ -27,7 +32,11 @@ pub fn read_whole(rt: &(impl Threads + Sync), alloc: Global, bytes: &[u8]) -> Re
 }
 
 /// The sections in order, up to the end of the bytes.
-fn read_sections(rt: &(impl Threads + Sync), alloc: Global, bytes: &[u8]) -> Result<Module, Stop>
+fn read_sections(
+    rt: &(impl Threads + Sync),
+    alloc: Global,
+    bytes: &[u8],
+) -> Result<WeighedModule, Stop>
     ensures value { GivesAllBy StandsForModule result (sections_at 1000 bytes.now) }
     ensures inside { IfErr result (λ stop. left_at stop ≤ length bytes.now) }
 {
@@ -92,7 +101,7 @@ fn read_late<'a>(
 }
 
 /// The module of these sections.
-fn assemble(groups: List<RecGroup>, imports: List<Import>, middle: Middle) -> Module
+fn assemble(groups: List<RecGroup>, imports: List<Import>, middle: Middle) -> WeighedModule
     ensures { result ≡ module_of_parts groups imports middle }
 {
     let Middle {
@@ -106,7 +115,8 @@ fn assemble(groups: List<RecGroup>, imports: List<Import>, middle: Middle) -> Mo
         late,
     } = middle;
     let Late { said, funcs, segs } = late;
-    Module {
+    let (funcs, weight) = funcs.into_parts();
+    let module = Module {
         types: TypeList { groups },
         imports,
         funcs,
@@ -119,5 +129,6 @@ fn assemble(groups: List<RecGroup>, imports: List<Import>, middle: Middle) -> Mo
         elems,
         has_count: said.is_some(),
         segs,
-    }
+    };
+    WeighedModule::new(module, weight)
 }

@@ -1,5 +1,6 @@
 //! Sections that are read together.
-use gu_syntax::{Elem, Export, Func, Global, Limits, Seg, Table};
+use crate::weighed::WeighedFuncs;
+use gu_syntax::{Elem, Export, Global, Limits, Seg, Table};
 use gu_types::List;
 
 /// The sections from the number of data segments on.
@@ -8,7 +9,7 @@ pub struct Late {
     /// The number of data segments, where it is said.
     pub said: Option<u32>,
     /// The functions.
-    pub funcs: List<Func>,
+    pub funcs: WeighedFuncs,
     /// The data segments.
     pub segs: List<Seg>,
 }

@@ -42,15 +42,15 @@ pub fn read_module(
             at: MOST as u64,
         });
     }
-    let module = match read_whole(rt, alloc, bytes) {
-        Ok(module) => module,
+    let weighed = match read_whole(rt, alloc, bytes) {
+        Ok(weighed) => weighed,
         Err(stop) => return Err(refusal(bytes, stop)),
     };
-    let Ok(found) = first_exceeded(rt, alloc, &module) else {
+    let Ok(found) = first_exceeded(alloc, &weighed) else {
         return Err(ReadErr::NoMemory);
     };
     match found {
         Some((which, at)) => Err(ReadErr::Limit { which, at }),
-        None => Ok(module),
+        None => Ok(weighed.into_module()),
     }
 }

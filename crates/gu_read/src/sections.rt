@@ -10,11 +10,12 @@ ghost use Rattle.gu_read.specs.Standing.{AllStandFor, GivesBy, GivesPast};
 
 use crate::entries::read_entries;
 use crate::items::Segs;
+use crate::weighed::WeighedFuncs;
 use gu_read_parts::{
     Asked, Index, Part, Stop, close, pass, read_content, read_items, read_text, read_u32,
     read_vector,
 };
-use gu_syntax::{Func, Seg};
+use gu_syntax::Seg;
 use gu_types::List;
 use std::alloc::Global;
 use std::thread::Threads;
@@ -112,7 +113,7 @@ pub fn read_code<'a>(
     alloc: Global,
     tys: &'a [u32],
     bytes: &'a [u8],
-) -> Result<(List<Func>, &'a [u8]), Stop>
+) -> Result<(WeighedFuncs, &'a [u8]), Stop>
     ensures value { GivesBy AllStandFor result (section_at 10 [] (bodies_at 1000 tys.now) bytes.now) }
     ensures inside { left_of result ≤ length bytes.now }
 {
@@ -123,7 +124,7 @@ pub fn read_code<'a>(
             let rest = pass_customs(rest)?;
             Ok((funcs, rest))
         }
-        _ => Ok((List::new(alloc), bytes)),
+        _ => Ok((WeighedFuncs::new(alloc), bytes)),
     }
 }
 
@@ -134,7 +135,7 @@ fn read_bodies<'a>(
     alloc: Global,
     tys: &'a [u32],
     bytes: &'a [u8],
-) -> Result<(List<Func>, &'a [u8]), Stop>
+) -> Result<(WeighedFuncs, &'a [u8]), Stop>
     ensures value { GivesBy AllStandFor result (bodies_at 1000 tys.now bytes.now) }
     ensures inside { left_of result ≤ length bytes.now }
 {

@@ -20,6 +20,6 @@ returns-in_err-func-clause-inside c =
 
 pub entries-preserved : goal.entries-preserved
 entries-preserved c = record {
-  runs = rw c.in_ok-push.ensures.ok (runs_on (entries_at 1000 c.args.tys.now c.args.bytes.now) _ c.in_ok-func.func _ _ _ c.entries.rest.now c.in_ok-func.behind.now (drop_more c.args.tys.now c.entries.ty-index 0 c.entries-test.true) c.in_ok-func.ensures.value c.entries.invariant.runs);
+  runs = rw c.in_ok-push.ensures (runs_on (entries_at 1000 c.args.tys.now c.args.bytes.now) _ c.in_ok-func.func _ _ _ c.entries.rest.now c.in_ok-func.behind.now (drop_more c.args.tys.now c.entries.ty-index 0 c.entries-test.true) c.in_ok-func.ensures.value c.entries.invariant.runs);
   inside = omega (arith, c.in_ok-func.ensures.inside);
 }

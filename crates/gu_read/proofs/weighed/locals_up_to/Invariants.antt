@@ -1,6 +1,6 @@
 use Rattle.std.proofs.Common.{◌≡◌, ◌≤◌, take}
 use Rattle.std.specs.Prelude.{sum_by}
-use Rattle.gu_read.proofs.limits.locals_up_to.Given as goal
+use Rattle.gu_read.proofs.weighed.locals_up_to.Given as goal
 
 abbrev pub invariant-runs : goal.invariant-runs
 invariant-runs l = record {
