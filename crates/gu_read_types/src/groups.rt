@@ -27,6 +27,7 @@ impl Part for Groups {
 
 /// A recursion group. A subtype alone is a group of one (core specification 3.0, 5.3, recursive
 /// types).
+#[inline(always)]
 fn read_group(alloc: Global, bytes: &[u8]) -> Result<(RecGroup, &[u8]), Stop>
     ensures value { Gives result (group_at bytes.now) }
     ensures inside { left_of result ≤ length bytes.now }

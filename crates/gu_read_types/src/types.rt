@@ -1,13 +1,19 @@
 //! Storage types, fields, composite types and subtypes.
 ghost use Rattle.std.specs.Prelude.{◌≡◌, ◌≤◌, ◌∷◌, length};
-ghost use Rattle.gu_syntax.specs.Reading.{storage_at, field_at, comp_at, sub_at, declared_at};
+ghost use Rattle.gu_syntax.specs.Instructions.{ref_to};
+ghost use Rattle.gu_syntax.specs.Reading.{made_at, heap_at, storage_at, field_at, comp_at, sub_at, declared_at};
 ghost use Rattle.gu_read_parts.specs.Gives.{Gives, left_of};
+ghost use Rattle.gu_types.specs.declared.types.Storage.TheVariants as S;
+ghost use Rattle.gu_types.specs.declared.types.ValType.TheVariants as V;
 
-use gu_read_parts::{Asked, Index, Part, Stop, Values, read_mutable, read_val, read_vector};
-use gu_types::{Comp, FieldType, List, Storage, SubType};
+use gu_read_parts::{
+    Asked, Index, Part, Stop, Values, read_heap, read_mutable, read_val, read_vector,
+};
+use gu_types::{Comp, FieldType, List, RefType, Storage, SubType, ValType};
 use std::alloc::Global;
 
 /// A storage type: a value type, or a packed one (core specification 3.0, 5.3, composite types).
+#[inline(always)]
 fn read_storage(bytes: &[u8]) -> Result<(Storage, &[u8]), Stop>
     ensures value { Gives result (storage_at bytes.now) }
     ensures inside { left_of result ≤ length bytes.now }
@@ -15,6 +21,8 @@ fn read_storage(bytes: &[u8]) -> Result<(Storage, &[u8]), Stop>
     match bytes.split_first() {
         Some((0x78, rest)) => Ok((Storage::I8, rest)),
         Some((0x77, rest)) => Ok((Storage::I16, rest)),
+        Some((0x63, rest)) => read_reference(true, rest),
+        Some((0x64, rest)) => read_reference(false, rest),
         _ => {
             let (ty, rest) = read_val(bytes)?;
             Ok((Storage::Val(ty), rest))
@@ -22,7 +30,19 @@ fn read_storage(bytes: &[u8]) -> Result<(Storage, &[u8]), Stop>
     }
 }
 
+/// A reference to a heap type as a storage type, behind the byte that says whether null is in it. Most
+/// fields are such references, which take no way through a value type (reference types).
+#[inline(always)]
+fn read_reference(null: bool, bytes: &[u8]) -> Result<(Storage, &[u8]), Stop>
+    ensures value { Gives result (made_at S.Val (made_at V.Ref (made_at (ref_to null) heap_at)) bytes.now) }
+    ensures inside { left_of result ≤ length bytes.now }
+{
+    let (heap, rest) = read_heap(bytes)?;
+    Ok((Storage::Val(ValType::Ref(RefType { null, heap })), rest))
+}
+
 /// A field type: how it is stored, and whether it may be written (field types).
+#[inline(always)]
 fn read_field(bytes: &[u8]) -> Result<(FieldType, &[u8]), Stop>
     ensures value { Gives result (field_at bytes.now) }
     ensures inside { left_of result ≤ length bytes.now }
@@ -48,6 +68,7 @@ impl Part for Fields {
 }
 
 /// A composite type: a code, and the types of a function, fields, or an element (composite types).
+#[inline(always)]
 fn read_comp(alloc: Global, bytes: &[u8]) -> Result<(Comp, &[u8]), Stop>
     ensures value { Gives result (comp_at bytes.now) }
     ensures inside { left_of result ≤ length bytes.now }
@@ -72,6 +93,7 @@ fn read_comp(alloc: Global, bytes: &[u8]) -> Result<(Comp, &[u8]), Stop>
 
 /// The supertypes and the composite type of a subtype, behind the code that says whether it is final
 /// (recursive types).
+#[inline(always)]
 fn read_declared(alloc: Global, is_final: bool, bytes: &[u8]) -> Result<(SubType, &[u8]), Stop>
     ensures value { Gives result (declared_at is_final bytes.now) }
     ensures inside { left_of result ≤ length bytes.now }
@@ -87,6 +109,7 @@ fn read_declared(alloc: Global, is_final: bool, bytes: &[u8]) -> Result<(SubType
 }
 
 /// A subtype. A composite type alone is final and has no supertype (recursive types).
+#[inline(always)]
 pub fn read_sub(alloc: Global, bytes: &[u8]) -> Result<(SubType, &[u8]), Stop>
     ensures value { Gives result (sub_at bytes.now) }
     ensures inside { left_of result ≤ length bytes.now }
