@@ -11,6 +11,7 @@ ghost use Rattle.gu_rec.specs.Validity.{all_below, is_sub_storage, is_sub_field,
 use gu_rec::Types;
 use gu_types::{Comp, FieldType, Storage, SubType, ValType};
 
+#[inline(always)]
 fn val_matches(types: &Types, a: ValType, b: ValType) -> bool
     requires first { all_below (length (types_of types.now)) (val_names a) ≡ true }
     requires second { all_below (length (types_of types.now)) (val_names b) ≡ true }
@@ -19,6 +20,7 @@ fn val_matches(types: &Types, a: ValType, b: ValType) -> bool
     types.is_sub_val(a, b)
 }
 
+#[inline(always)]
 fn storage_matches(types: &Types, a: Storage, b: Storage) -> bool
     requires first { all_below (length (types_of types.now)) (storage_names a) ≡ true }
     requires second { all_below (length (types_of types.now)) (storage_names b) ≡ true }
@@ -40,6 +42,7 @@ fn storage_matches(types: &Types, a: Storage, b: Storage) -> bool
     }
 }
 
+#[inline(always)]
 fn field_matches(types: &Types, a: FieldType, b: FieldType) -> bool
     requires first { all_below (length (types_of types.now)) (field_names a) ≡ true }
     requires second { all_below (length (types_of types.now)) (field_names b) ≡ true }
@@ -54,6 +57,7 @@ fn field_matches(types: &Types, a: FieldType, b: FieldType) -> bool
     }
 }
 
+#[inline(always)]
 fn vals_match(types: &Types, a: &[ValType], b: &[ValType]) -> bool
     requires first { list_all (λ ty. all_below (length (types_of types.now)) (val_names ty)) a.now ≡ true }
     requires second { list_all (λ ty. all_below (length (types_of types.now)) (val_names ty)) b.now ≡ true }
@@ -70,6 +74,7 @@ fn vals_match(types: &Types, a: &[ValType], b: &[ValType]) -> bool
     true
 }
 
+#[inline(always)]
 fn fields_match(types: &Types, a: &[FieldType], b: &[FieldType]) -> bool
     requires first { list_all (λ field. all_below (length (types_of types.now)) (field_names field)) a.now ≡ true }
     requires second { list_all (λ field. all_below (length (types_of types.now)) (field_names field)) b.now ≡ true }
@@ -87,6 +92,7 @@ fn fields_match(types: &Types, a: &[FieldType], b: &[FieldType]) -> bool
 }
 
 /// Whether the first composite type is a subtype of the second.
+#[inline(always)]
 fn comp_matches(types: &Types, a: &Comp, b: &Comp) -> bool
     requires first { all_below (length (types_of types.now)) (comp_names a.now) ≡ true }
     requires second { all_below (length (types_of types.now)) (comp_names b.now) ≡ true }
