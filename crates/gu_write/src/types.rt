@@ -12,6 +12,7 @@ use gu_write_parts::{Form, IndexForm, ValTypeForm, WriteErr, put_byte, put_val, 
 use std::alloc::{AllocError, Global};
 
 /// Appends whether something may be written (5.3.10 Global Types). The error says that memory ran out.
+#[inline(always)]
 pub(crate) fn put_mutable(out: &mut Vec<u8>, mutable: bool) -> Result<(), AllocError>
     ensures { OnOk result (out.new.items ≡ out.old.items ++ encode_mutable mutable) }
 {
@@ -19,6 +20,7 @@ pub(crate) fn put_mutable(out: &mut Vec<u8>, mutable: bool) -> Result<(), AllocE
 }
 
 /// Appends a field type (5.3.8 Composite Types). The error says that memory ran out.
+#[inline(always)]
 fn put_field(alloc: Global, out: &mut Vec<u8>, field: FieldType) -> Result<(), AllocError>
     ensures { OnOk result (out.new.items ≡ out.old.items ++ encode_field field) }
 {
@@ -48,6 +50,7 @@ impl Form<FieldType> for FieldForm {
 }
 
 /// Appends a composite type (5.3.8 Composite Types).
+#[inline(always)]
 fn put_comp(alloc: Global, out: &mut Vec<u8>, comp: &Comp) -> Result<(), WriteErr>
     requires { IsShapedComp comp.now }
     ensures ok { OnOk result (out.new.items ≡ out.old.items ++ encode_comp comp.now) }
@@ -72,6 +75,7 @@ fn put_comp(alloc: Global, out: &mut Vec<u8>, comp: &Comp) -> Result<(), WriteEr
 }
 
 /// Appends a subtype; a final one without supertypes is a bare composite type (5.3.9 Recursive Types).
+#[inline(always)]
 fn put_sub(alloc: Global, out: &mut Vec<u8>, ty: &SubType) -> Result<(), WriteErr>
     requires { IsShapedSub ty.now }
     ensures ok { OnOk result (out.new.items ≡ out.old.items ++ encode_sub ty.now) }
@@ -85,6 +89,7 @@ fn put_sub(alloc: Global, out: &mut Vec<u8>, ty: &SubType) -> Result<(), WriteEr
 }
 
 /// Appends a subtype with what it declares of its place among the types (5.3.9 Recursive Types).
+#[inline(always)]
 fn put_declared(alloc: Global, out: &mut Vec<u8>, ty: &SubType) -> Result<(), WriteErr>
     requires { IsShapedSub ty.now }
     ensures ok { OnOk result (out.new.items ≡ out.old.items ++ declared_text ty.now) }
