@@ -25,7 +25,7 @@ use Rattle.gu_report.specs.Statuses.{of_reader, of_writer}
 use Rattle.gu_report.specs.declared.status.Status.{Status}
 use Rattle.gu_report.specs.declared.status.Status.TheVariants as S
 use Rattle.wasm_gufa.specs.Answers.{most_written, Accepts, Optimises, BreaksOff, IsLimit}
-use Rattle.wasm_gufa.specs.Steps.{Blames, Makes, IsEarly, Says}
+use Rattle.wasm_gufa.specs.Steps.{Blames, Makes, IsEarly, IsLate, Says, of_run}
 
 -- an error that was converted
 pub err_from : {A : Type 0} (Q : Status → Type 0) (r : Result A Status) (want : Status) → IsErrAnd r (λ status. status ≡ want) → Q want → IfErr r Q
@@ -99,7 +99,7 @@ says_early left before after S.WriteFault e h = absurd e
 says_early left before after S.NoMemory e h = nothing_said left
 
 -- a module that was made and put whole
-optimises : (bytes text : List ℕ) (before after : Option (List ℕ)) → Makes bytes text → Appended before after text → Optimises bytes before after
+pub optimises : (bytes text : List ℕ) (before after : Option (List ℕ)) → Makes bytes text → Appended before after text → Optimises bytes before after
 optimises bytes text before after makes written =
     let m : Module = makes.m
     in let short : length (encoding (cut_module m)) ≤ most_written = subst (λ (xs : List ℕ). length xs ≤ most_written) makes.made makes.short
@@ -116,12 +116,43 @@ optimises bytes text before after makes written =
       same = same_steps_is_same m (cut_module m) (cut_is_same m);
     }
 
--- the same, where the source tells its bytes
-pub optimises_told : (left before after : Option (List ℕ)) (text : List ℕ) → IfSome left (λ bytes. Makes bytes text) → Appended before after text → IfSome left (λ bytes. Optimises bytes before after)
-optimises_told None before after text h written = tt
-optimises_told (Some bytes) before after text h written = optimises bytes text before after h written
-
 -- a module that was made and not put whole
-pub broken_off : (left before after : Option (List ℕ)) (text : List ℕ) → IfSome left (λ bytes. Makes bytes text) → PrefixAdded before after text → IfSome left (λ bytes. BreaksOff bytes before after)
-broken_off None before after text h written = tt
-broken_off (Some bytes) before after text h written = record { m = h.m; accepted = h.accepted; written = subst (PrefixAdded before after) h.made written }
+pub broken_off : (bytes text : List ℕ) (before after : Option (List ℕ)) → Makes bytes text → PrefixAdded before after text → BreaksOff bytes before after
+broken_off bytes text before after makes written = record { m = makes.m; accepted = makes.accepted; written = subst (PrefixAdded before after) makes.made written }
+
+-- what is said where the text of a module is not made
+pub says_unwritten : (bytes : List ℕ) (before after : Option (List ℕ)) (m : Module) (e : WriteErr) → Accepts bytes m → BlamesLength (encoding (cut_module m)) e → Says (of_writer e) bytes before after
+says_unwritten bytes before after m T.TooLong accepted h = (record { m = m; accepted = accepted; long = h refl }, refl)
+says_unwritten bytes before after m T.NoMemory accepted h = tt
+
+pub late_of : (e : WriteErr) → IsLate (of_writer e)
+late_of T.TooLong = tt
+late_of T.NoMemory = tt
+
+-- what is said of the bytes that spell the module, where the source tells its bytes
+pub says_told : (left before after : Option (List ℕ)) (m : Module) (s : Status) → IfSome left (λ bytes. Accepts bytes m) → ((bytes : List ℕ) → Accepts bytes m → Says s bytes before after) → IfSome left (λ bytes. Says s bytes before after)
+says_told None before after m s accepted says = tt
+says_told (Some bytes) before after m s accepted says = says bytes accepted
+
+late_status : (r : Result (Unit {0}) Status) → IfErr r IsLate → (of_run r ≢ S.Usage) × (of_run r ≢ S.ReadFault)
+late_status (Ok x) h = ((λ e. cc), (λ e. cc))
+late_status (Err S.Done) h = absurd h
+late_status (Err S.Usage) h = absurd h
+late_status (Err (S.Malformed at)) h = absurd h
+late_status (Err (S.OutOfProfile at code)) h = absurd h
+late_status (Err (S.Invalid part)) h = absurd h
+late_status (Err (S.Limit which at)) h = ((λ e. cc), (λ e. cc))
+late_status (Err S.ReadFault) h = absurd h
+late_status (Err S.WriteFault) h = ((λ e. cc), (λ e. cc))
+late_status (Err S.NoMemory) h = ((λ e. cc), (λ e. cc))
+
+pub never_usage : (r : Result (Unit {0}) Status) → IfErr r IsLate → of_run r ≢ S.Usage
+never_usage r h = (late_status r h).0
+
+pub never_read_fault : (r : Result (Unit {0}) Status) → IfErr r IsLate → of_run r ≢ S.ReadFault
+never_read_fault r h = (late_status r h).1
+
+-- the status of a run that ends with an error that was converted
+pub run_is : (r : Result (Unit {0}) Status) (want : Status) → IsErrAnd r (λ status. status ≡ want) → of_run r ≡ want
+run_is (Ok x) want h = absurd h
+run_is (Err status) want h = h

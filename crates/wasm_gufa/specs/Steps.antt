@@ -27,6 +27,13 @@ IsEarly S.Usage = ⊥
 IsEarly S.WriteFault = ⊥
 IsEarly _ = Unit {0}
 
+-- a refusal that comes while a module is written and put
+abbrev pub IsLate : Status → Type 0
+IsLate S.WriteFault = Unit {0}
+IsLate S.NoMemory = Unit {0}
+IsLate (S.Limit _ _) = Unit {0}
+IsLate _ = ⊥
+
 -- the status of a run
 abbrev pub of_run : Result (Unit {0}) Status → Status
 of_run (Ok x) = S.Done

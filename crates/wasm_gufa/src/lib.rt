@@ -7,4 +7,4 @@ mod tests;
 mod top;
 
 pub use gu_report::{Part, Status, Which, fault_line};
-pub use top::wasm_gufa;
+pub use top::{wasm_gufa, wasm_gufa_and_keep};

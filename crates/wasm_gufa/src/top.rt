@@ -1,12 +1,12 @@
 //! The top call.
 
-ghost use Rattle.std.specs.Prelude.{◌≡◌, ◌≢◌, ◌≤◌, ◌<◌, ◌↔◌, length, IfOk, IfErr, IfSome};
+ghost use Rattle.std.specs.Prelude.{◌≡◌, ◌≢◌, ◌≤◌, ◌<◌, ◌↔◌, ℕ, List, length, IfOk, IfErr, IfSome};
 ghost use Rattle.gu_outside.specs.Outside.{Rose};
 ghost use Rattle.gu_report.specs.Lines.{line_of, IsTold};
 ghost use Rattle.wasm_gufa.specs.Answers.{Accepts, Optimises, BreaksOff, IsDue};
 ghost use Rattle.wasm_gufa.specs.Answers.{IsMalformed, IsOutside, IsInvalid, IsLimit};
 ghost use Rattle.wasm_gufa.specs.Answers.{IfMalformed, IfOutOfProfile, IfInvalid, IfLimit};
-ghost use Rattle.wasm_gufa.specs.Steps.{Blames, Makes, IsEarly, Says, of_run};
+ghost use Rattle.wasm_gufa.specs.Steps.{Blames, IsEarly, IsLate, Says, of_run};
 
 use gu_body::cut_module;
 use gu_model::ValidModule;
@@ -34,38 +34,55 @@ fn accepted(rt: &(impl Threads + Sync), alloc: Global, bytes: &[u8]) -> Result<V
     }
 }
 
-/// The least text of the module that the bytes spell, without its dead tails.
-fn optimised(rt: &(impl Threads + Sync), alloc: Global, bytes: &[u8]) -> Result<Vec<u8>, Status>
-    ensures ok { IfOk result (λ text. Makes bytes.now text.items) }
-    ensures err { IfErr result (Blames bytes.now) }
-{
-    let module = cut_module(accepted(rt, alloc, bytes)?);
-    Ok(write_module(rt, alloc, module.get())?)
-}
-
-/// The optimised text of the module that the source gives.
-fn made<R: Source>(
+/// The module that the source gives, where it is within the limits and valid. The bytes are let go.
+fn taken<R: Source>(
     rt: &(impl Threads + Sync),
     alloc: Global,
     input: &mut R,
-) -> Result<Vec<u8>, Status>
-    ensures ok { IfOk result (λ text. IfSome (R.left input.old) (λ bytes. Makes bytes text.items)) }
+) -> Result<ValidModule, Status>
+    ensures ok { IfOk result (λ m. IfSome (R.left input.old) (λ bytes. Accepts bytes m)) }
     ensures err { IfErr result (λ status. status ≢ Status.ReadFault → IfSome (R.left input.old) (λ bytes. Blames bytes status)) }
     ensures early { IfErr result IsEarly }
     ensures read_fault { IfErr result (λ status. status ≡ Status.ReadFault → Rose (R.faults input.old) (R.faults input.new)) }
     ensures never_falls { R.faults input.old ≤ R.faults input.new }
 {
     let bytes = read_to_limit(alloc, input, INPUT_LIMIT)?;
-    optimised(rt, alloc, bytes.as_slice())
+    accepted(rt, alloc, bytes.as_slice())
 }
 
-/// Reads, optimises and puts a module, unless there is a word.
+/// Puts the least text of a module, without its dead tails, and keeps the module. The text is let go
+/// before it: with the module's many small blocks free, the allocator would join them all once a large
+/// one is freed.
+fn put_least<K: Sink>(
+    rt: &(impl Threads + Sync),
+    alloc: Global,
+    module: ValidModule,
+    output: &mut K,
+    kept: &mut Option<ValidModule>,
+) -> Result<(), Status>
+    ensures says { (bytes : List ℕ) → Accepts bytes «module» → Says (of_run result) bytes (K.held output.old) (K.held output.new) }
+    ensures write_fault { of_run result ≡ Status.WriteFault → Rose (K.faults output.old) (K.faults output.new) }
+    ensures untouched { of_run result ≢ Status.Done → of_run result ≢ Status.WriteFault → output.new ≡ output.old }
+    ensures later { IfErr result IsLate }
+    ensures never_falls { K.faults output.old ≤ K.faults output.new }
+{
+    let cut = cut_module(module);
+    let text = write_module(rt, alloc, cut.get())?;
+    *kept = Some(cut);
+    match put_all(output, text.as_slice()) {
+        Ok(()) => Ok(()),
+        Err(_) => Err(Status::WriteFault),
+    }
+}
+
+/// Reads, optimises and puts a module, unless there is a word, and keeps it.
 fn run<R: Source, K: Sink>(
     rt: &(impl Threads + Sync),
     alloc: Global,
     words: &[&str],
     input: &mut R,
     output: &mut K,
+    kept: &mut Option<ValidModule>,
 ) -> Result<(), Status>
     ensures usage { (of_run result ≡ Status.Usage) ↔ (0 < length words.now) }
     ensures says { IfSome (R.left input.old) (λ bytes. Says (of_run result) bytes (K.held output.old) (K.held output.new)) }
@@ -79,11 +96,8 @@ fn run<R: Source, K: Sink>(
     if !words.is_empty() {
         return Err(Status::Usage);
     }
-    let text = made(rt, alloc, input)?;
-    match put_all(output, text.as_slice()) {
-        Ok(()) => Ok(()),
-        Err(_) => Err(Status::WriteFault),
-    }
+    let module = taken(rt, alloc, input)?;
+    put_least(rt, alloc, module, output, kept)
 }
 
 /// Reads one WebAssembly module from `input` up to its end, and puts it on `output` in its least
@@ -130,7 +144,42 @@ pub fn wasm_gufa<R: Source, K: Sink, L: Sink>(
     ensures output_never_falls { K.faults output.old ≤ K.faults output.new }
     ensures report_never_falls { L.faults report.old ≤ L.faults report.new }
 {
-    match run(rt, alloc, words, input, output) {
+    let mut kept = None;
+    wasm_gufa_and_keep(rt, alloc, words, input, output, report, &mut kept)
+}
+
+/// As `wasm_gufa`, and the module that was written is kept for the caller to let go. A program that
+/// ends next may forget it: the system takes the memory back at once, and not block by block.
+pub fn wasm_gufa_and_keep<R: Source, K: Sink, L: Sink>(
+    rt: &(impl Threads + Sync),
+    alloc: Global,
+    words: &[&str],
+    input: &mut R,
+    output: &mut K,
+    report: &mut L,
+    kept: &mut Option<ValidModule>,
+) -> Status
+    ensures usage { (result ≡ Status.Usage) ↔ (0 < length words.now) }
+    ensures done { result ≡ Status.Done → IfSome (R.left input.old) (λ bytes. Optimises bytes (K.held output.old) (K.held output.new)) }
+    ensures limit { IfLimit result (λ which at. IfSome (R.left input.old) (λ bytes. IsLimit bytes which at)) }
+    ensures malformed { IfMalformed result (λ at. IfSome (R.left input.old) (λ bytes. IsMalformed bytes at)) }
+    ensures out_of_profile { IfOutOfProfile result (λ at code. IfSome (R.left input.old) (λ bytes. IsOutside bytes at code)) }
+    ensures invalid { IfInvalid result (λ part. IfSome (R.left input.old) (λ bytes. IsInvalid bytes part)) }
+    ensures read_fault { result ≡ Status.ReadFault → Rose (R.faults input.old) (R.faults input.new) }
+    ensures write_fault { result ≡ Status.WriteFault → Rose (K.faults output.old) (K.faults output.new) }
+    ensures broken_off { result ≡ Status.WriteFault → IfSome (R.left input.old) (λ bytes. BreaksOff bytes (K.held output.old) (K.held output.new)) }
+
+    // Which answer comes where there is no word and nothing outside failed.
+    ensures due { length words.now ≡ 0 → (Rose (R.faults input.old) (R.faults input.new) → ⊥) → (Rose (K.faults output.old) (K.faults output.new) → ⊥) → IfSome (R.left input.old) (λ bytes. IsDue bytes result) }
+
+    ensures unread { result ≡ Status.Usage → input.new ≡ input.old }
+    ensures untouched { result ≢ Status.Done → result ≢ Status.WriteFault → output.new ≡ output.old }
+    ensures told { IsTold (L.held report.old) (L.held report.new) (L.faults report.old) (L.faults report.new) (line_of result) }
+    ensures input_never_falls { R.faults input.old ≤ R.faults input.new }
+    ensures output_never_falls { K.faults output.old ≤ K.faults output.new }
+    ensures report_never_falls { L.faults report.old ≤ L.faults report.new }
+{
+    match run(rt, alloc, words, input, output, kept) {
         Ok(()) => Status::Done,
         Err(status) => {
             fault_line(report, &status);

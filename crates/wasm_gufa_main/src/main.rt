@@ -5,12 +5,12 @@
 
 use gu_outside::{Sink, Source, StdSink, StdSource};
 use std::alloc::{AllocError, Global};
-use std::env;
 use std::io::{self, ErrorKind};
 use std::process::ExitCode;
 use std::rt::Env;
 use std::thread::Threads;
-use wasm_gufa::{Status, fault_line, wasm_gufa};
+use std::{env, mem};
+use wasm_gufa::{Status, fault_line, wasm_gufa_and_keep};
 
 fn main(rt: HostRuntime) -> ExitCode {
     let mut input = StdSource::new(rt.stdin());
@@ -29,11 +29,27 @@ fn answer<R: Source, K: Sink, L: Sink>(
 ) -> Status {
     match arguments(rt) {
         Ok(arguments) => match words_of(rt.alloc(), &arguments) {
-            Ok(words) => wasm_gufa(rt, rt.alloc(), words.as_slice(), input, output, report),
+            Ok(words) => last_answer(rt, rt.alloc(), words.as_slice(), input, output, report),
             Err(AllocError) => refused(report, Status::NoMemory),
         },
         Err(error) => refused(report, status_of(&error)),
     }
+}
+
+/// Does the job that the words ask for, as the last that the program does: the module is forgotten,
+/// since the system takes all memory back when the program ends.
+fn last_answer<R: Source, K: Sink, L: Sink>(
+    rt: &(impl Threads + Sync),
+    alloc: Global,
+    words: &[&str],
+    input: &mut R,
+    output: &mut K,
+    report: &mut L,
+) -> Status {
+    let mut kept = None;
+    let status = wasm_gufa_and_keep(rt, alloc, words, input, output, report, &mut kept);
+    mem::forget(kept);
+    status
 }
 
 /// The arguments without the program's name. One that is no text is an error.

@@ -1,7 +1,7 @@
 use Rattle.std.proofs.Common.{arith}
 use Rattle.gu_report.specs.declared.status.Status.TheVariants.{Done}
 use Rattle.wasm_gufa.proofs.Answering.{is_due}
-use Rattle.wasm_gufa.proofs.top.wasm_gufa.Goals as goal
+use Rattle.wasm_gufa.proofs.top.wasm_gufa_and_keep.Goals as goal
 
 pub returns-in-Ok-clause-due : goal.returns-in-Ok-clause-due
 returns-in-Ok-clause-due g c empty read written =
