@@ -49,10 +49,10 @@ impl Seen {
         let depth = depth_behind(depths, ty);
         let (params, results, fields) = sizes(&ty.comp);
         self.depths.push(depth)?;
-        self.params = or_above(self.params, 1_000, params, index);
-        self.results = or_above(self.results, 1_000, results, index);
-        self.fields = or_above(self.fields, 10_000, fields, index);
-        self.deeper = or_above(self.deeper, DEEPEST as usize, depth as usize, index);
+        keep_above(&mut self.params, 1_000, params, index);
+        keep_above(&mut self.results, 1_000, results, index);
+        keep_above(&mut self.fields, 10_000, fields, index);
+        keep_above(&mut self.deeper, DEEPEST as usize, depth as usize, index);
         Ok(())
     }
 }
@@ -71,15 +71,15 @@ pub fn see_types(alloc: Global, groups: &[RecGroup]) -> Result<Seen, AllocError>
     Ok(seen)
 }
 
-/// What was found first, or this index where nothing was and the number that stands there is more than
-/// so many.
-fn or_above(found: Option<usize>, most: usize, number: usize, index: usize) -> Option<usize>
-    ensures { result ≡ spec.or_above most number index found }
+/// Keeps what was found first, or this index where nothing was and the number that stands there is more
+/// than so many. Few numbers are, so nothing is written but then.
+#[inline(always)]
+fn keep_above(found: &mut Option<usize>, most: usize, number: usize, index: usize)
+    ensures { found.new ≡ spec.or_above most number index found.old }
 {
-    if found.is_none() && most < number {
-        return Some(index);
+    if most < number && found.is_none() {
+        *found = Some(index);
     }
-    found
 }
 
 /// How many parameters, results and fields a type has.

@@ -13,8 +13,8 @@ returns c = λ types sees.
     let is = subst (λ l. IsDepthBehind l ty d) c.as_slice-depths.ensures.value c.depth_behind-depth.ensures in
     sees_more before _ types ty d is (record {
       depths = c.in_ok-push.ensures.items;
-      params = or_with 1000 c.sizes-params.result.0 (params_of ty.comp) _ _ before.params c.or_above-self.result c.or_above-self.ensures c.sizes-params.ensures.params long;
-      results = or_with 1000 c.sizes-params.result.1 (results_of ty.comp) _ _ before.results c.or_above-self-2.result c.or_above-self-2.ensures c.sizes-params.ensures.results long;
-      fields = or_with 10000 c.sizes-params.result.2 (fields_of ty.comp) _ _ before.fields c.or_above-self-3.result c.or_above-self-3.ensures c.sizes-params.ensures.fields long;
-      deeper = or_with 63 d d _ _ before.deeper c.or_above-self-4.result c.or_above-self-4.ensures refl long;
+      params = or_with 1000 c.sizes-params.result.0 (params_of ty.comp) _ _ before.params c.keep_above.new.found c.keep_above.ensures c.sizes-params.ensures.params long;
+      results = or_with 1000 c.sizes-params.result.1 (results_of ty.comp) _ _ before.results c.keep_above-2.new.found c.keep_above-2.ensures c.sizes-params.ensures.results long;
+      fields = or_with 10000 c.sizes-params.result.2 (fields_of ty.comp) _ _ before.fields c.keep_above-3.new.found c.keep_above-3.ensures c.sizes-params.ensures.fields long;
+      deeper = or_with 63 d d _ _ before.deeper c.keep_above-4.new.found c.keep_above-4.ensures refl long;
     }) sees
