@@ -1,5 +1,5 @@
 -- What the answers of the program say of the bytes that it read and of what it put.
-use Rattle.std.specs.Prelude.{ℕ, ◌≡◌, ◌<◌, ◌≤◌, ◌⊎◌, List, length, Option}
+use Rattle.std.specs.Prelude.{ℕ, ◌≡◌, ◌<◌, ◌≤◌, ◌⊎◌, List, length, Option, Some, None}
 use Rattle.gu_outside.specs.Outside.{Appended, PrefixAdded}
 use Rattle.gu_syntax.specs.declared.module.Module.{Module}
 use Rattle.gu_syntax.specs.Module.{Spells}
@@ -46,6 +46,11 @@ pub record BreaksOff (bytes : List ℕ) (before after : Option (List ℕ)) : Typ
   pub m : Module
   pub accepted : Accepts bytes m
   pub written : PrefixAdded before after (encoding (cut_module m))
+
+-- there is a module, and its least text was put behind what the sink held
+abbrev pub Keeps : (before after : Option (List ℕ)) → (kept : Option Module) → Type 0
+Keeps before after None = ⊥
+Keeps before after (Some m) = Appended before after (encoding m)
 
 -- the bytes spell no module of the profile: read from the left, what the grammar asks at this place does not stand
 -- there, and no code of the standard that is left out of the profile stands in its place

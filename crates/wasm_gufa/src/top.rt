@@ -5,7 +5,7 @@ ghost use Rattle.gu_outside.specs.Outside.{Rose};
 ghost use Rattle.gu_report.specs.Lines.{line_of, IsTold};
 ghost use Rattle.wasm_gufa.specs.Answers.{Accepts, Optimises, BreaksOff, IsDue};
 ghost use Rattle.wasm_gufa.specs.Answers.{IsMalformed, IsOutside, IsInvalid, IsLimit};
-ghost use Rattle.wasm_gufa.specs.Answers.{IfMalformed, IfOutOfProfile, IfInvalid, IfLimit};
+ghost use Rattle.wasm_gufa.specs.Answers.{IfMalformed, IfOutOfProfile, IfInvalid, IfLimit, Keeps};
 ghost use Rattle.wasm_gufa.specs.Steps.{Blames, IsEarly, IsLate, Says, of_run};
 
 use gu_body::cut_module;
@@ -65,12 +65,16 @@ fn put_least<K: Sink>(
     ensures untouched { of_run result ≢ Status.Done → of_run result ≢ Status.WriteFault → output.new ≡ output.old }
     ensures later { IfErr result IsLate }
     ensures never_falls { K.faults output.old ≤ K.faults output.new }
+    ensures keeps { of_run result ≡ Status.Done → Keeps (K.held output.old) (K.held output.new) kept.new }
+    ensures keeps_none { of_run result ≢ Status.Done → kept.new ≡ kept.old }
 {
     let cut = cut_module(module);
     let text = write_module(rt, alloc, cut.get())?;
-    *kept = Some(cut);
     match put_all(output, text.as_slice()) {
-        Ok(()) => Ok(()),
+        Ok(()) => {
+            *kept = Some(cut);
+            Ok(())
+        }
         Err(_) => Err(Status::WriteFault),
     }
 }
@@ -92,6 +96,8 @@ fn run<R: Source, K: Sink>(
     ensures unread { of_run result ≡ Status.Usage → input.new ≡ input.old }
     ensures input_never_falls { R.faults input.old ≤ R.faults input.new }
     ensures output_never_falls { K.faults output.old ≤ K.faults output.new }
+    ensures keeps { of_run result ≡ Status.Done → Keeps (K.held output.old) (K.held output.new) kept.new }
+    ensures keeps_none { of_run result ≢ Status.Done → kept.new ≡ kept.old }
 {
     if !words.is_empty() {
         return Err(Status::Usage);
@@ -148,8 +154,9 @@ pub fn wasm_gufa<R: Source, K: Sink, L: Sink>(
     wasm_gufa_and_keep(rt, alloc, words, input, output, report, &mut kept)
 }
 
-/// As `wasm_gufa`, and the module that was written is kept for the caller to let go. A program that
-/// ends next may forget it: the system takes the memory back at once, and not block by block.
+/// As `wasm_gufa`, and a module that was written is put into `kept`, for the caller to let go. After any
+/// other answer than `Done`, `kept` is as it was. A program that ends next may forget the module: the
+/// system takes the memory back at once, and not block by block.
 pub fn wasm_gufa_and_keep<R: Source, K: Sink, L: Sink>(
     rt: &(impl Threads + Sync),
     alloc: Global,
@@ -178,6 +185,10 @@ pub fn wasm_gufa_and_keep<R: Source, K: Sink, L: Sink>(
     ensures input_never_falls { R.faults input.old ≤ R.faults input.new }
     ensures output_never_falls { K.faults output.old ≤ K.faults output.new }
     ensures report_never_falls { L.faults report.old ≤ L.faults report.new }
+
+    // What is kept is the module whose text was put.
+    ensures keeps { result ≡ Status.Done → Keeps (K.held output.old) (K.held output.new) kept.new }
+    ensures keeps_none { result ≢ Status.Done → kept.new ≡ kept.old }
 {
     match run(rt, alloc, words, input, output, kept) {
         Ok(()) => Status::Done,

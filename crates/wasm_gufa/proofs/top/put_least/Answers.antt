@@ -29,8 +29,8 @@ returns-in-Ok-clause-says g c = λ bytes accepted.
     })
     (subst (Appended before after) c.as_slice.ensures.value c.in-Ok.ensures.all)
 
-pub returns-clause-says : goal.returns-clause-says
-returns-clause-says g c = λ bytes accepted.
+pub returns-in-Err-clause-says : goal.returns-in-Err-clause-says
+returns-in-Err-clause-says g c = λ bytes accepted.
     let before = g.K.Sink.held c.args.output.now in
     let after = g.K.Sink.held c.put_all.new.output in
     broken_off bytes c.in_ok-text.text.items before after
