@@ -1,5 +1,6 @@
 -- What the errors of the steps say of the bytes, and what a module says that was made of them.
 use Rattle.std.proofs.Common.{ℕ, ◌≤◌, ◌≡◌, ◌≢◌, refl, sym, subst, length, List, Option, Some, None, Result, Ok, Err, IfErr, IsErrAnd, IfSome}
+use Rattle.std.proofs.lemmas.Option.{same_Some}
 use Rattle.gu_outside.specs.Outside.{Appended, PrefixAdded}
 use Rattle.gu_syntax.specs.declared.module.Module.{Module}
 use Rattle.gu_syntax.specs.Encoding.{encoding}
@@ -24,7 +25,7 @@ use Rattle.gu_model.proofs.Sames.{same_steps_is_same}
 use Rattle.gu_report.specs.Statuses.{of_reader, of_writer}
 use Rattle.gu_report.specs.declared.status.Status.{Status}
 use Rattle.gu_report.specs.declared.status.Status.TheVariants as S
-use Rattle.wasm_gufa.specs.Answers.{most_written, Accepts, Optimises, BreaksOff, IsLimit}
+use Rattle.wasm_gufa.specs.Answers.{most_written, Accepts, Optimises, BreaksOff, Keeps, IsLimit}
 use Rattle.wasm_gufa.specs.Steps.{Blames, Makes, IsEarly, IsLate, Says, of_run}
 
 -- an error that was converted
@@ -133,6 +134,12 @@ late_of T.NoMemory = tt
 pub says_told : (left before after : Option (List ℕ)) (m : Module) (s : Status) → IfSome left (λ bytes. Accepts bytes m) → ((bytes : List ℕ) → Accepts bytes m → Says s bytes before after) → IfSome left (λ bytes. Says s bytes before after)
 says_told None before after m s accepted says = tt
 says_told (Some bytes) before after m s accepted says = says bytes accepted
+
+-- what is said of the module that is kept, where the source tells its bytes
+pub keeps_told : (left : Option (List ℕ)) (m : Module) (kept : Option Module) → IfSome left (λ bytes. Accepts bytes m) → kept ≡ Some (cut_module m) → IfSome left (λ bytes. Keeps bytes kept)
+keeps_told None m kept accepted is = tt
+keeps_told (Some bytes) m None accepted is = absurd (let z : ⊥ = cc in z)
+keeps_told (Some bytes) m (Some n) accepted is = (m, accepted, same_Some n (cut_module m) is)
 
 late_status : (r : Result (Unit {0}) Status) → IfErr r IsLate → (of_run r ≢ S.Usage) × (of_run r ≢ S.ReadFault)
 late_status (Ok x) h = ((λ e. cc), (λ e. cc))

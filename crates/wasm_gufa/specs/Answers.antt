@@ -47,10 +47,10 @@ pub record BreaksOff (bytes : List ℕ) (before after : Option (List ℕ)) : Typ
   pub accepted : Accepts bytes m
   pub written : PrefixAdded before after (encoding (cut_module m))
 
--- there is a module, and its least text was put behind what the sink held
-abbrev pub Keeps : (before after : Option (List ℕ)) → (kept : Option Module) → Type 0
-Keeps before after None = ⊥
-Keeps before after (Some m) = Appended before after (encoding m)
+-- there is a module: the one that the bytes spell, which is valid and within the limits, without dead tails
+abbrev pub Keeps : (bytes : List ℕ) → (kept : Option Module) → Type 0
+Keeps bytes None = ⊥
+Keeps bytes (Some kept) = (m : Module) × Accepts bytes m × (kept ≡ cut_module m)
 
 -- the bytes spell no module of the profile: read from the left, what the grammar asks at this place does not stand
 -- there, and no code of the standard that is left out of the profile stands in its place

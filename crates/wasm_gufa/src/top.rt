@@ -1,6 +1,7 @@
 //! The top call.
 
-ghost use Rattle.std.specs.Prelude.{◌≡◌, ◌≢◌, ◌≤◌, ◌<◌, ◌↔◌, ℕ, List, length, IfOk, IfErr, IfSome};
+ghost use Rattle.std.specs.Prelude.{◌≡◌, ◌≢◌, ◌≤◌, ◌<◌, ◌↔◌, ℕ, List, length, Some, IfOk, IfErr, IfSome};
+ghost use Rattle.gu_model.specs.Cut as dead;
 ghost use Rattle.gu_outside.specs.Outside.{Rose};
 ghost use Rattle.gu_report.specs.Lines.{line_of, IsTold};
 ghost use Rattle.wasm_gufa.specs.Answers.{Accepts, Optimises, BreaksOff, IsDue};
@@ -65,7 +66,7 @@ fn put_least<K: Sink>(
     ensures untouched { of_run result ≢ Status.Done → of_run result ≢ Status.WriteFault → output.new ≡ output.old }
     ensures later { IfErr result IsLate }
     ensures never_falls { K.faults output.old ≤ K.faults output.new }
-    ensures keeps { of_run result ≡ Status.Done → Keeps (K.held output.old) (K.held output.new) kept.new }
+    ensures keeps { of_run result ≡ Status.Done → kept.new ≡ Some (dead.cut_module «module») }
     ensures keeps_none { of_run result ≢ Status.Done → kept.new ≡ kept.old }
 {
     let cut = cut_module(module);
@@ -96,7 +97,7 @@ fn run<R: Source, K: Sink>(
     ensures unread { of_run result ≡ Status.Usage → input.new ≡ input.old }
     ensures input_never_falls { R.faults input.old ≤ R.faults input.new }
     ensures output_never_falls { K.faults output.old ≤ K.faults output.new }
-    ensures keeps { of_run result ≡ Status.Done → Keeps (K.held output.old) (K.held output.new) kept.new }
+    ensures keeps { of_run result ≡ Status.Done → IfSome (R.left input.old) (λ bytes. Keeps bytes kept.new) }
     ensures keeps_none { of_run result ≢ Status.Done → kept.new ≡ kept.old }
 {
     if !words.is_empty() {
@@ -186,8 +187,8 @@ pub fn wasm_gufa_and_keep<R: Source, K: Sink, L: Sink>(
     ensures output_never_falls { K.faults output.old ≤ K.faults output.new }
     ensures report_never_falls { L.faults report.old ≤ L.faults report.new }
 
-    // What is kept is the module whose text was put.
-    ensures keeps { result ≡ Status.Done → Keeps (K.held output.old) (K.held output.new) kept.new }
+    // What is kept is the module whose least text was put.
+    ensures keeps { result ≡ Status.Done → IfSome (R.left input.old) (λ bytes. Keeps bytes kept.new) }
     ensures keeps_none { result ≢ Status.Done → kept.new ≡ kept.old }
 {
     match run(rt, alloc, words, input, output, kept) {
