@@ -1,15 +1,17 @@
 -- The table of distinct groups: how a bucket is searched, and how a group is put into it.
-use Rattle.std.proofs.Common.{◌≡◌, ◌↔◌, ℕ, zero, suc, ◌+◌, ◌<◌, ◌≤◌, Bool, IsTrue, List, [], ◌∷◌, ◌++◌, map, length, get_or, set, slice_get, Some, refl, ap, sym, ◌∙◌, subst, inl, inr, arith, length-append}
+use Rattle.std.proofs.Common.{◌≡◌, ◌↔◌, ℕ, zero, suc, ◌+◌, ◌*◌, ◌/◌, ◌<◌, ◌≤◌, Bool, IsTrue, List, [], ◌∷◌, ◌++◌, map, length, get_or, set, slice_get, Some, refl, ap, sym, ◌∙◌, subst, inl, inr, arith, length-append}
 use Rattle.std.proofs.lemmas.List.{length-map, length-set, get_or-set_same, get_or-set_other, take-append-le}
 use Rattle.std.proofs.lemmas.Option.{slice_get_within}
 use Rattle.std.proofs.lemmas.Bool.{cases_lt}
+use Rattle.std.proofs.lemmas.Nat.{div_below}
+use Rattle.std.proofs.Math.Nat.{mul-lt-mul_of_pos_right, mul_comm}
 use Rattle.gu_types.specs.declared.types.SubType.{SubType}
 use Rattle.gu_types.specs.declared.types.RecGroup.{RecGroup}
 use Rattle.gu_rec.specs.declared.distinct.Distinct.{Distinct}
 use Rattle.gu_rec.specs.Names.{rename}
 use Rattle.gu_rec.specs.Alike.{alike_lists}
 use Rattle.gu_rec.specs.Hashes.{hash_of}
-use Rattle.gu_rec.specs.Keys.{number_of, key, key_at, types_at, bucket_of, IsLast, Linked, Chains, IsAbsent}
+use Rattle.gu_rec.specs.Keys.{number_of, key, key_at, types_at, bucket_of, IsLast, Linked, Chains, IsAbsent, FirstIs}
 use Rattle.gu_rec.proofs.Same.{tells_decides}
 use Rattle.gu_rec.proofs.Keys.{keys_tell}
 use Rattle.gu_rec.proofs.Numbers.{slice_get-left}
@@ -33,6 +35,10 @@ same_keys own types earlier numbers found e =
           let l : length own ≡ length types = sym (length-map own (rename (number_of earlier (length own)))) ∙ (ap length s ∙ length-map types (rename (number_of numbers (length types)))) in
           e ∙ (tells_decides keys_tell mine (key numbers types)).1 (ap (λ n. map (rename (number_of earlier n)) own) (sym l) ∙ s),
     )
+
+-- a share is one of those that there are
+pub share_within : (hash buckets hashes : ℕ) → 0 < buckets → hash < hashes → hash * buckets / hashes < buckets
+share_within hash buckets hashes some low = div_below (hash * buckets) hashes buckets (omega arith) (subst (λ n. hash * buckets < n) (mul_comm hashes buckets) (mul-lt-mul_of_pos_right low some))
 
 -- where a search of a bucket for a key stands
 pub record Searching (groups : List RecGroup) (numbers : List ℕ) (distinct : List Distinct) (buckets bucket : ℕ) (types : List SubType) (up_to : ℕ) : Type 0 where
@@ -87,6 +93,11 @@ last_item [] x (suc m) y h s = cc
 last_item (z ∷ xs) x zero y h s = absurd (omega arith)
 last_item (z ∷ xs) x (suc m) y h s = let r = last_item xs x m y (omega arith) s in (ap suc r.0, r.1)
 
+-- at most one distinct group more
+pub one_more : (groups : List RecGroup) (numbers : List ℕ) (old : List Distinct) (group first : ℕ) (new : List Distinct) → FirstIs groups numbers old group first new → length new ≤ length old + 1
+one_more groups numbers old group first new (inl p) = omega (arith, ap length p.1)
+one_more groups numbers old group first new (inr w) = omega (arith, ap length w.grown, length-append old (w.entry ∷ []))
+
 -- what is last up to an end stays so where groups are put behind it
 last_kept : (distinct more : List Distinct) (buckets bucket end last : ℕ) → end ≤ length distinct → IsLast distinct buckets bucket end last → IsLast (distinct ++ more) buckets bucket end last
 last_kept distinct more buckets bucket end last h at =
@@ -102,6 +113,7 @@ module _ {groups : List RecGroup} {numbers : List ℕ} {distinct : List Distinct
   pub chains_grow : (more : List ℕ) → Chains groups (numbers ++ more) distinct lasts
   chains_grow more = record {
     some = chains.some;
+    few = chains.few;
     linked = λ m entry s.
         let was = chains.linked m entry s in
         let b = was.start in
@@ -162,8 +174,10 @@ module _ {groups : List RecGroup} {numbers : List ℕ} {distinct : List Distinct
     chains_push =
         let n : length (set lasts bucket (length distinct + 1)) ≡ length lasts = length-set lasts bucket (length distinct + 1) in
         let some = chains.some in
+        let few = chains.few in
         record {
           some = omega arith;
+          few = omega arith;
           linked = λ m other s. subst (λ k. Linked groups numbers (distinct ++ entry ∷ []) k m other) (sym n) (linked_now m other s);
           last = λ b h.
               let here : b < length lasts = omega arith in

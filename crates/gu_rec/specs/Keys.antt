@@ -1,5 +1,5 @@
 -- What the code keeps of the types of a module. No public contract speaks of it.
-use Rattle.std.specs.Prelude.{ℕ, zero, suc, ◌+◌, ◌-◌, ◌%◌, ◌<◌, ◌≤◌, ◌^◌, ◌≡◌, ◌⊎◌, List, [], ◌∷◌, ◌++◌, map, take, length, slice_get, slice_index, nat_lt, if◌then◌else◌, Option, Some, true, false, MatchOption}
+use Rattle.std.specs.Prelude.{ℕ, zero, suc, ◌+◌, ◌-◌, ◌*◌, ◌/◌, ◌<◌, ◌≤◌, ◌^◌, ◌≡◌, ◌⊎◌, List, [], ◌∷◌, ◌++◌, map, take, length, slice_get, slice_index, nat_lt, if◌then◌else◌, Option, Some, true, false, MatchOption}
 use Rattle.gu_types.specs.declared.types.SubType.{SubType}
 use Rattle.gu_types.specs.declared.types.RecGroup.{RecGroup}
 use Rattle.gu_types.specs.declared.types.TypeList.{TypeList}
@@ -38,9 +38,9 @@ types_at (group ∷ groups) (suc i) = types_at groups i
 abbrev pub key_at : List RecGroup → List ℕ → Distinct → List SubType
 key_at groups numbers entry = key (take entry.start numbers) (types_at groups entry.group)
 
--- the bucket of a hash, of so many
+-- the bucket of a hash below 2 ^ 32, of so many: each has its share of the hashes, in order
 abbrev pub bucket_of : ℕ → ℕ → ℕ
-bucket_of buckets hash = hash % buckets
+bucket_of buckets hash = hash * buckets / 2 ^ 32
 
 -- among the distinct groups before an end, how many there are up to the last one in a bucket
 pub record IsLast (distinct : List Distinct) (buckets bucket end last : ℕ) : Type 0 where
@@ -58,6 +58,7 @@ pub record Linked (groups : List RecGroup) (numbers : List ℕ) (distinct : List
 -- each bucket leads to all distinct groups in it
 pub record Chains (groups : List RecGroup) (numbers : List ℕ) (distinct : List Distinct) (lasts : List ℕ) : Type 0 where
   pub some : 0 < length lasts
+  pub few : length lasts < 2 ^ 32
   pub linked : (m : ℕ) (entry : Distinct) → slice_get distinct m ≡ Some entry → Linked groups numbers distinct (length lasts) m entry
   pub last : (bucket : ℕ) → bucket < length lasts → IsLast distinct (length lasts) bucket (length distinct) (slice_index lasts bucket)
 

@@ -14,7 +14,7 @@ use std::alloc::Global;
 /// 3.0, 3.2 Types). It takes memory in the size of the list. `BadRef` comes exactly where some
 /// type names an index not below its group's end, declares more than one supertype, or declares
 /// one whose index is not smaller than its own, and names the first such type. `NoMemory` comes
-/// where memory is refused, or where there are 2^32 types or more.
+/// where memory is refused, or where there are 2^32 types or groups, or more.
 pub fn intern(alloc: Global, list: &TypeList) -> Result<Types<'_>, RecErr>
     requires { (i : ℕ) → depth (types_of list.now) i ≤ 63 }
     ensures types { IfOk result (λ types. types ≡ list.now) }

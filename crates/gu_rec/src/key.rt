@@ -320,6 +320,7 @@ fn type_count(groups: &[RecGroup]) -> usize {
 pub(crate) fn least_indices(alloc: Global, list: &TypeList) -> Result<Vec<u32>, AllocError>
     requires hold { IndicesHold list.now }
     requires fit { length (types_of list.now) < 2 ^ 32 }
+    requires grouped { length list.now.groups < 2 ^ 32 }
     ensures { IfOk result (λ numbers. LeastIndices list.now numbers.items) }
 {
     let groups = list.groups.as_slice();

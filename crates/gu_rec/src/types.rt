@@ -53,13 +53,17 @@ impl<'a> Model for Types<'a> {
 
 impl<'a> Types<'a> {
     /// The tables of a list of types whose indices hold. `AllocError` only where memory is
-    /// refused.
+    /// refused, or where there are 2^32 groups or more.
     pub(crate) fn make(alloc: Global, list: &'a TypeList) -> Result<Types<'a>, AllocError>
         requires hold { IndicesHold list.now }
         requires few { length (types_of list.now) < 2 ^ 32 }
         requires shallow { (i : ℕ) → depths.depth (types_of list.now) i ≤ 63 }
         ensures { IfOk result (λ types. types ≡ list.now) }
     {
+        let groups = list.groups.as_slice();
+        if groups.len() > u32::MAX as usize {
+            return Err(AllocError);
+        }
         let least = least_indices(alloc, list)?;
         let entries = entries_of(alloc, list, least.len())?;
         let places = places_of(alloc, list, least.len())?;

@@ -60,7 +60,7 @@ fn first_bad_super(types: &Types, flat: &[&SubType]) -> Option<u32>
 /// does not match it, and names the first such type: structures have the fields of their
 /// supertype first, immutable fields are covariant and mutable ones invariant, functions are
 /// contravariant in parameters and covariant in results (3.3 Matching). `NoMemory` comes where
-/// memory is refused, or where there are 2^32 types or more.
+/// memory is refused, or where there are 2^32 types or groups, or more.
 pub fn check_types(alloc: Global, list: &TypeList) -> Result<Types<'_>, TypesErr>
     requires { (i : ℕ) → depth (types_of list.now) i ≤ 63 }
     ensures types { IfOk result (λ types. types ≡ list.now) }

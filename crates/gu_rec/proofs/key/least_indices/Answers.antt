@@ -2,7 +2,7 @@ use Rattle.std.proofs.Common.{rules, ◌≡◌, ℕ, ◌+◌, ◌<◌, ◌^◌, 
 use Rattle.gu_types.specs.declared.types.RecGroup.{RecGroup}
 use Rattle.gu_rec.specs.Keys.{types_at, run, Chains, FirstIs}
 use Rattle.gu_rec.proofs.Groups.{Step, step_fits}
-use Rattle.gu_rec.proofs.Chained.{types_at_read, chains_grow}
+use Rattle.gu_rec.proofs.Chained.{types_at_read, one_more, chains_grow}
 use Rattle.gu_rec.proofs.Interned.{starts, length_so_far, numbers_fit, first_fits, kept_next, all_least}
 use Rattle.gu_rec.proofs.key.least_indices.Goals as goal
 use Rattle.gu_rec.proofs.key.least_indices.Goals.{After-as_slice, After-as_slice-in-loop-group, In_ok-first}
@@ -62,9 +62,12 @@ pub loop-group-preserved : goal.loop-group-preserved
 loop-group-preserved c =
     let p = (goal.at.loop-group-preserved c).After-as_slice in
     let q = (goal.at.loop-group-preserved c).In_ok-first in
+    let more = one_more c.as_slice-groups.result.now c.loop-group.numbers.items c.loop-group.table.distinct.items c.loop-group.group c.in_ok-first.first c.first_of.new.self.distinct.items (found q) in
+    let behind = c.loop-group.invariant.behind in
     record {
       kept = kept_next c.loop-group.group c.loop-group.invariant.kept (step_of p) c.requires.fit c.requires.hold (there p) c.loop-group.invariant.chains (found q) c.in_ok-push_run.ensures;
       chains = subst (λ n. Chains c.as_slice-groups.result.now n c.first_of.new.self.distinct.items c.first_of.new.self.lasts.items) (sym c.in_ok-push_run.ensures) (chains_grow (chained q) (run c.in_ok-first.first (length c.as_slice.result.now)));
+      behind = omega arith;
     }
 
 pub returns : goal.returns

@@ -1,4 +1,4 @@
-use Rattle.std.proofs.Common.{take, []}
+use Rattle.std.proofs.Common.{◌≤◌, length, take, []}
 use Rattle.gu_rec.specs.Closed.{close_on}
 use Rattle.gu_rec.specs.Keys.{Chains}
 use Rattle.gu_rec.proofs.Interned.{Kept}
@@ -8,4 +8,5 @@ abbrev pub invariant-loop-group : goal.invariant-loop-group
 invariant-loop-group l = record {
   kept : Kept l.groups (close_on [] (take l.group l.groups)) l.numbers.items l.table.distinct.items;
   chains : Chains l.groups l.numbers.items l.table.distinct.items l.table.lasts.items;
+  behind : length l.table.distinct.items ≤ l.group;
 }

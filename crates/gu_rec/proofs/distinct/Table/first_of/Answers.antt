@@ -1,11 +1,10 @@
 use Rattle.std.proofs.Common.{rules, ◌≡◌, ℕ, ◌+◌, ◌<◌, ◌^◌, List, [], ◌∷◌, ◌++◌, length, get_or, take, refl, ap, sym, ◌∙◌, subst, inl, inr, arith}
-use Rattle.std.proofs.Math.Nat.{mod-lt}
 use Rattle.std.proofs.lemmas.List.{take_all}
 use Rattle.gu_types.specs.declared.types.RecGroup.{RecGroup}
 use Rattle.gu_rec.specs.declared.distinct.Distinct.{Distinct}
 use Rattle.gu_rec.specs.Hashes.{hash_of}
 use Rattle.gu_rec.specs.Keys.{key, key_at, types_at, bucket_of, Chains, IsFoundAt, IsAbsent}
-use Rattle.gu_rec.proofs.Chained.{types_at_read, chains_push}
+use Rattle.gu_rec.proofs.Chained.{types_at_read, share_within, chains_push}
 use Rattle.gu_rec.proofs.distinct.Table.first_of.Goals as goal
 use Rattle.gu_rec.proofs.distinct.Table.first_of.Goals.{After-as_slice-types, In_ok-push}
 
@@ -51,7 +50,7 @@ returns-clause-chains c =
     let hashed : c.hash_types-hash.result ≡ hash_of (key_at groups numbers (entry c)) = c.hash_types-hash.ensures ∙ (λ j. hash_of (key (sym front j) (e j))) in
     subst (λ d. Chains groups numbers d c.push.new.self.lasts.items) (sym c.in_ok-push.ensures.distinct)
     (subst (λ l. Chains groups numbers (distinct ++ entry c ∷ []) l) (sym c.in_ok-push.ensures.lasts)
-    (chains_push c.requires.chains (entry c) c.requires.at (omega arith) hashed bucket refl (mod-lt c.hash_types-hash.result c.requires.chains.some) refl))
+    (chains_push c.requires.chains (entry c) c.requires.at (omega arith) hashed bucket refl (share_within c.hash_types-hash.result (length lasts) (2 ^ 32) c.requires.chains.some (omega arith)) refl))
 
 pub returns-clause-first : goal.returns-clause-first
 unfolding entry
