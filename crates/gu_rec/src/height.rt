@@ -1,16 +1,14 @@
 //! The heights of types, found for all of them at once.
-ghost use Rattle.std.specs.Prelude.{◌≡◌, ◌<◌, ◌≤◌, ◌+◌, ℕ, suc, Some, length, slice_get, option_map, IfOk};
+ghost use Rattle.std.specs.Prelude.{◌≡◌, ◌<◌, ◌≤◌, ◌+◌, ℕ, Some, length, slice_get, IfOk};
 ghost use Rattle.gu_types.specs.declared.types.TypeList.{TypeList as Listed};
 ghost use Rattle.gu_types.specs.declared.types.HeapType.TheVariants as H;
 ghost use Rattle.gu_types.specs.Depth.{types_of};
 ghost use Rattle.gu_rec.specs.declared.types.Entry.{Entry as Kept};
-ghost use Rattle.gu_rec.specs.Sub as sub;
-ghost use Rattle.gu_rec.specs.Tests.{eq_abs};
-ghost use Rattle.gu_rec.specs.Table.{place, IsTable, EntriesAre};
+ghost use Rattle.gu_rec.specs.Table.{IsTable, EntriesAre};
 ghost use Rattle.gu_rec.specs.Heights.{HeightTo, Raise, HeightsFrom, HeightsAre, TopsAre};
 ghost use Rattle.gu_rec.specs.Heights as heights;
 
-use crate::abs::{abs_distance, abs_height};
+use crate::abs::abs_height;
 use crate::types::Entry;
 use gu_types::{Abs, HeapType};
 use std::alloc::{AllocError, Global};
@@ -94,18 +92,6 @@ impl Tops {
     }
 }
 
-/// How many edges lead from an abstract heap type down to a type, by what is kept of it.
-fn edges_to(entry: Entry, top: Abs) -> Option<u32>
-    requires { entry.depth ≤ 63 }
-    ensures far { result ≡ option_map (λ k. suc entry.depth + k) (place (eq_abs top) (sub.abs_line entry.kind)) }
-    ensures small { (edges : ℕ) → result ≡ Some edges → edges ≤ 66 }
-{
-    match abs_distance(top, entry.kind) {
-        None => None,
-        Some(edges) => Some(entry.depth + 1 + edges),
-    }
-}
-
 /// The height of an abstract heap type, found from all types.
 fn farthest(entries: &[Entry], top: Abs) -> u32
     requires { (i : ℕ) (entry : Kept) → slice_get entries.now i ≡ Some entry → entry.depth ≤ 63 }
@@ -114,7 +100,7 @@ fn farthest(entries: &[Entry], top: Abs) -> u32
 {
     let mut most = abs_height(HeapType::Abs(top));
     for i in 0..entries.len() {
-        if let Some(edges) = edges_to(entries[i], top) {
+        if let Some(edges) = entries[i].edges_from(top) {
             if most < edges {
                 most = edges;
             }

@@ -1,11 +1,11 @@
 //! The types of a module with what is asked of them.
-ghost use Rattle.std.specs.Prelude.{◌≡◌, ◌<◌, ◌≤◌, ◌^◌, ℕ, length, IsTrue, ◌↔◌, IfOk, MatchOption, slice_get, Some};
+ghost use Rattle.std.specs.Prelude.{◌≡◌, ◌<◌, ◌≤◌, ◌+◌, ◌^◌, ℕ, suc, option_map, length, IsTrue, ◌↔◌, IfOk, MatchOption, slice_get, Some};
 ghost use Rattle.gu_rec.specs.Validity.{IndicesHold};
 ghost use Rattle.gu_types.specs.Depth.{types_of};
 ghost use Rattle.gu_types.specs.Depth as depths;
 ghost use Rattle.gu_types.specs.declared.types.HeapType.TheVariants as H;
 ghost use Rattle.gu_rec.specs.Closed.{SameType};
-ghost use Rattle.gu_rec.specs.Tests.{same_type};
+ghost use Rattle.gu_rec.specs.Tests.{eq_abs, same_type};
 ghost use Rattle.gu_rec.specs.Sub as sub;
 ghost use Rattle.gu_rec.specs.Sub.{IsHeapOf, IsValOf};
 ghost use Rattle.gu_rec.specs.Table.{place, next_above, IsNamed};
@@ -25,7 +25,21 @@ use std::marker::Model;
 pub(crate) struct Entry {
     pub(crate) parent: Option<u32>,
     pub(crate) kind: Abs,
-    pub(crate) depth: u32,
+    pub(crate) depth: u8,
+}
+
+impl Entry {
+    /// How many edges lead from an abstract heap type down to the type.
+    pub(crate) fn edges_from(self, top: Abs) -> Option<u32>
+        requires { self.depth ≤ 63 }
+        ensures far { result ≡ option_map (λ k. suc self.depth + k) (place (eq_abs top) (sub.abs_line self.kind)) }
+        ensures small { (edges : ℕ) → result ≡ Some edges → edges ≤ 66 }
+    {
+        match abs_distance(top, self.kind) {
+            None => None,
+            Some(edges) => Some(self.depth as u32 + 1 + edges),
+        }
+    }
 }
 
 /// The types of a module, as `intern` made it of them. It borrows their list, which contracts see.
@@ -128,7 +142,7 @@ impl<'a> Types<'a> {
         ensures small { result ≤ 63 }
     {
         let entry = self.entries[i as usize];
-        entry.depth
+        entry.depth as u32
     }
 
     /// How many declared supertypes lead from a type up to another, which is among them or is the
@@ -193,21 +207,9 @@ impl<'a> Types<'a> {
                 HeapType::Idx(_) => None,
             },
             HeapType::Idx(i) => match above {
-                HeapType::Abs(top) => self.edges_from(top, i),
+                HeapType::Abs(top) => self.entries[i as usize].edges_from(top),
                 HeapType::Idx(j) => self.steps_up(i, j),
             },
-        }
-    }
-
-    /// How many edges lead from an abstract heap type down to a type.
-    fn edges_from(&self, top: Abs, i: u32) -> Option<u32>
-        requires { i < length (types_of self.now) }
-        ensures { result ≡ place (sub.same_heap self.now (H.Abs top)) (sub.line self.now (H.Idx i)) }
-    {
-        let entry = self.entries[i as usize];
-        match abs_distance(top, entry.kind) {
-            None => None,
-            Some(edges) => Some(entry.depth + 1 + edges),
         }
     }
 
