@@ -5,7 +5,7 @@ use Rattle.std.proofs.lemmas.Option.{slice_get_within, slice_get_read, slice_get
 use Rattle.gu_types.specs.declared.types.SubType.{SubType}
 use Rattle.gu_types.specs.declared.types.RecGroup.{RecGroup}
 use Rattle.gu_types.specs.declared.types.TypeList.{TypeList}
-use Rattle.gu_rec.specs.declared.place.Place.{Place}
+use Rattle.gu_rec.specs.declared.place.Seat.{Seat}
 use Rattle.gu_rec.specs.Sub.{StandsAt}
 use Rattle.gu_rec.specs.Table.{PlacesTo}
 use Rattle.gu_rec.proofs.Numbers.{slice_get-left, slice_get-right}
@@ -31,20 +31,20 @@ stands {list = list} {gs = gs} {i = i} {g = g} {types = types} {start = start} s
       counted = ap (λ n. n + k) (begins step);
     }
 
-pub places_next : (list : TypeList) (count : ℕ) (places : List Place) (place : Place) → PlacesTo list count places → StandsAt list count place.group place.position → PlacesTo list (count + 1) (places ++ place ∷ [])
-places_next list count places place so here = record {
-  long = length-append places (place ∷ []) ∙ ap (λ n. n + 1) so.long;
+pub places_next : (list : TypeList) (count : ℕ) (places : List Seat) (seat : Seat) → PlacesTo list count places → StandsAt list count seat.group seat.position → PlacesTo list (count + 1) (places ++ seat ∷ [])
+places_next list count places seat so here = record {
+  long = length-append places (seat ∷ []) ∙ ap (λ n. n + 1) so.long;
   at = λ j x s.
-      let bound = slice_get_within (places ++ place ∷ []) j x s in
-      let l = length-append places (place ∷ []) in
+      let bound = slice_get_within (places ++ seat ∷ []) j x s in
+      let l = length-append places (seat ∷ []) in
       let n = so.long in
       elim (cases_lt j (length places)) as (λ _. StandsAt list j x.group x.position) [
-        | inl h ↦ so.at j x (sym (slice_get-left places (place ∷ []) j h) ∙ s)
+        | inl h ↦ so.at j x (sym (slice_get-left places (seat ∷ []) j h) ∙ s)
         | inr h ↦
             let k : j ≡ length places + 0 = omega arith in
-            let t : Some place ≡ Some x = sym (slice_get-right places (place ∷ []) 0) ∙ (ap (slice_get (places ++ place ∷ [])) (sym k) ∙ s) in
-            let f : place ≡ x = cc in
+            let t : Some seat ≡ Some x = sym (slice_get-right places (seat ∷ []) 0) ∙ (ap (slice_get (places ++ seat ∷ [])) (sym k) ∙ s) in
+            let f : seat ≡ x = cc in
             let g : count ≡ j = omega arith in
-            subst (λ (y : Place). StandsAt list j y.group y.position) f (subst (λ m. StandsAt list m place.group place.position) g here)
+            subst (λ (y : Seat). StandsAt list j y.group y.position) f (subst (λ m. StandsAt list m seat.group seat.position) g here)
       ];
 }

@@ -7,7 +7,7 @@ use Rattle.gu_types.specs.declared.types.HeapType.TheVariants as H
 use Rattle.gu_types.specs.declared.types.TypeList.{TypeList}
 use Rattle.gu_types.specs.Depth.{types_of, parent}
 use Rattle.gu_rec.specs.declared.height.Tops.{Tops}
-use Rattle.gu_rec.specs.declared.place.Place.{Place}
+use Rattle.gu_rec.specs.declared.place.Seat.{Seat}
 use Rattle.gu_rec.specs.declared.types.Entry.{Entry}
 use Rattle.gu_rec.specs.Sub.{distance, height}
 use Rattle.gu_rec.specs.Table.{IsTable, PlacesAre}
@@ -72,7 +72,7 @@ pub record TopsAre (list : TypeList) (tops : Tops) : Type 0 where
   pub exns_is : tops.exns ≡ height list (H.Abs A.Exn)
 
 -- what a `Types` keeps, as a whole
-pub record IsKept (list : TypeList) (least : List ℕ) (entries : List Entry) (places : List Place) (heights : List ℕ) (tops : Tops) : Type 0 where
+pub record IsKept (list : TypeList) (least : List ℕ) (entries : List Entry) (places : List Seat) (heights : List ℕ) (tops : Tops) : Type 0 where
   pub table : IsTable list least entries
   pub places_are : PlacesAre list places
   pub heights_are : HeightsAre list least heights

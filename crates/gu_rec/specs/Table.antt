@@ -8,7 +8,7 @@ use Rattle.gu_types.specs.declared.types.SubType.{SubType}
 use Rattle.gu_types.specs.declared.types.TypeList.{TypeList}
 use Rattle.gu_types.specs.Depth.{types_of, parent, depth}
 use Rattle.gu_rec.specs.declared.types.Entry.{Entry}
-use Rattle.gu_rec.specs.declared.place.Place.{Place}
+use Rattle.gu_rec.specs.declared.place.Seat.{Seat}
 use Rattle.gu_rec.specs.Sub.{kind_of, IsSub, IsLeastIndex, StandsAt}
 use Rattle.gu_rec.specs.Keys.{LeastIndices}
 use Rattle.gu_rec.specs.Validity.{IndicesHold}
@@ -46,12 +46,12 @@ pub record EntriesAre (types : List SubType) (entries : List Entry) : Type 0 whe
   pub at : (i : ℕ) (entry : Entry) → slice_get entries i ≡ Some entry → EntryIs types i entry
 
 -- where each of the first types stands, so many
-pub record PlacesTo (list : TypeList) (count : ℕ) (places : List Place) : Type 0 where
+pub record PlacesTo (list : TypeList) (count : ℕ) (places : List Seat) : Type 0 where
   pub long : length places ≡ count
-  pub at : (i : ℕ) (place : Place) → slice_get places i ≡ Some place → StandsAt list i place.group place.position
+  pub at : (i : ℕ) (seat : Seat) → slice_get places i ≡ Some seat → StandsAt list i seat.group seat.position
 
 -- where each of the types stands
-abbrev pub PlacesAre : TypeList → List Place → Type 0
+abbrev pub PlacesAre : TypeList → List Seat → Type 0
 PlacesAre list places = PlacesTo list (length (types_of list)) places
 
 -- what the answers on subtyping rest on

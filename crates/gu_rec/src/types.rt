@@ -14,7 +14,7 @@ use crate::abs::{above_abs, abs_distance, same_abs, top_of};
 use crate::build::entries_of;
 use crate::height::{Tops, tops_of, type_heights};
 use crate::key::least_indices;
-use crate::place::{Place, places_of};
+use crate::place::{Place, Seat, places_of};
 use gu_types::{Abs, HeapType, SubType, TypeList, ValType};
 use std::alloc::{AllocError, Global};
 use std::marker::Model;
@@ -49,7 +49,7 @@ pub struct Types<'a> {
     list: &'a TypeList,
     least: Vec<u32>,
     entries: Vec<Entry>,
-    places: Vec<Place>,
+    places: Vec<Seat>,
     heights: Vec<u32>,
     tops: Tops,
 }
@@ -119,7 +119,11 @@ impl<'a> Types<'a> {
         let places = self.places.as_slice();
         let at = i as usize;
         if at < places.len() {
-            Some(places[at])
+            let seat = places[at];
+            Some(Place {
+                group: seat.group as usize,
+                position: seat.position as usize,
+            })
         } else {
             None
         }

@@ -1,9 +1,9 @@
-use Rattle.std.proofs.Common.{◌≡◌, ◌+◌, ◌++◌, ◌∷◌, [], ℕ, length, take, refl, ap, sym, ◌∙◌, subst, arith}
+use Rattle.std.proofs.Common.{rules, ◌≡◌, ◌+◌, ◌<◌, ◌^◌, ◌++◌, ◌∷◌, [], ℕ, length, take, refl, ap, sym, ◌∙◌, subst, arith}
 use Rattle.gu_types.specs.declared.types.RecGroup.{RecGroup}
 use Rattle.gu_types.specs.Depth.{types_in}
 use Rattle.gu_rec.specs.Sub.{StandsAt}
 use Rattle.gu_rec.specs.Table.{PlacesTo}
-use Rattle.gu_rec.proofs.Groups.{Step, step_length}
+use Rattle.gu_rec.proofs.Groups.{Step, step_length, step_fits}
 use Rattle.gu_rec.proofs.Standing.{stands, places_next}
 use Rattle.gu_rec.proofs.place.places_of.Goals as goal
 use Rattle.gu_rec.proofs.place.places_of.Goals.{After-as_slice-types}
@@ -17,6 +17,14 @@ step_of c = record {
   types_are = c.as_slice-types.ensures ∙ ap (λ (g : RecGroup). g.types) (sym c.index-groups-group.is);
   start_is = refl;
 }
+
+pub overflow_cast-position : goal.overflow_cast-position
+overflow_cast-position c =
+    let a = step_fits (step_of ((goal.at.overflow_cast-position c).After-as_slice-types)) in
+    let f = c.requires.few in
+    let t = c.loop-position-test.true in
+    let h : c.loop-position.position < 2 ^ 32 = omega arith in
+    search (rules, h)
 
 pub loop-position-preserved : goal.loop-position-preserved
 loop-position-preserved c =
