@@ -163,6 +163,14 @@ fn fits_elem(env: &Env<'_>, elem: u32, field: FieldType) -> bool
     }
 }
 
+/// Fills a part of an array of such elements from a part of a segment, where the segment fits them.
+fn fills<'a>(ty: u32, field: FieldType, fits: bool) -> Option<Row<'a>>
+    ensures { option_map row_of result ≡ typing.fills ty field fits }
+{
+    let top = Few::Four(idx_or_null(ty), I32, I32, I32);
+    given(field.mutable && fits, plain(top, None))
+}
+
 /// Whether one storage type is below another.
 fn is_sub_storage(env: &Env<'_>, below: Storage, above: Storage) -> bool
     ensures { result ≡ rec.is_sub_storage env.now.types.now below above }
@@ -300,19 +308,11 @@ fn range_row<'a>(env: &Env<'a>, instr: &Instr) -> Option<Row<'a>>
         }
         Instr::ArrayInitData(ty, seg) => {
             let found = env.elements_at(*ty)?;
-            let top = Few::Four(idx_or_null(*ty), I32, I32, I32);
-            given(
-                found.mutable && fits_data(env, *seg, found),
-                plain(top, None),
-            )
+            fills(*ty, found, fits_data(env, *seg, found))
         }
         Instr::ArrayInitElem(ty, elem) => {
             let found = env.elements_at(*ty)?;
-            let top = Few::Four(idx_or_null(*ty), I32, I32, I32);
-            given(
-                found.mutable && fits_elem(env, *elem, found),
-                plain(top, None),
-            )
+            fills(*ty, found, fits_elem(env, *elem, found))
         }
         _ => None,
     }
