@@ -8,7 +8,7 @@ use Rattle.gu_syntax.specs.declared.module.Func.{Func}
 use Rattle.gu_syntax.specs.declared.module.Module.{Module}
 use Rattle.gu_read_parts.specs.declared.answer.Which.{Which}
 use Rattle.gu_read_parts.specs.declared.answer.Which.TheVariants as W
-use Rattle.gu_read.specs.Limits.{if_above, first_above, params_of, results_of, funcs_in, globals_in, locals_of, exceeded_or, first_exceeded, exceeded}
+use Rattle.gu_read.specs.Limits.{if_above, first_above, params_of, results_of, locals_of, exceeded_or, first_exceeded, exceeded}
 use Rattle.gu_read.specs.declared.seen.Seen as D
 use Rattle.gu_read.specs.Seen.{Sees}
 use Rattle.gu_read.specs.Rows.{capped, first_rows, type_rows, local_rows, depth_rows}
@@ -40,18 +40,6 @@ rows_none [] b e = refl
 rows_none (row ∷ rows) b e =
     let n = none_or row.0 row.1 (first_exceeded rows) e in
     rows_none rows b n.1 ∙ row_none row.0 row.1 (first_exceeded (rows ++ b)) n.0
-
-not_above : (most n : ℕ) (b : Bool) → nat_lt most n ≡ b → (if b then Some n else None) ≡ None → n ≤ most
-not_above most n true e h = let f : ◌≡◌ {A = Option ℕ} (Some n) None = h in cc
-not_above most n false e h = grind (arith, e)
-
-pub few_funcs : (types : ℕ) (m : Module) → first_exceeded (first_rows types m) ≡ None → length m.funcs ≤ 1000000
-few_funcs types m e =
-    let l1 = exceeded_or W.Globals (if_above 1000000 (globals_in m)) None in
-    let a = none_or W.Types (if_above 1000000 types) (exceeded_or W.Funcs (if_above 1000000 (funcs_in m)) l1) e in
-    let b = none_or W.Funcs (if_above 1000000 (funcs_in m)) l1 a.1 in
-    let n = not_above 1000000 (funcs_in m) (nat_lt 1000000 (funcs_in m)) refl b.0 in
-    omega (arith, n)
 
 -- locals
 pub local_numbers : (funcs : List Func) (numbers : List ℕ) (n : ℕ) → numbers ≡ map (λ f. capped (locals_of f)) (take n funcs) → length funcs ≤ n → first_above (λ n. n) 50000 numbers ≡ first_above locals_of 50000 funcs

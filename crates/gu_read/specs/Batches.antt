@@ -17,7 +17,8 @@ abbrev pub Follow : List Batch → (tys text others rest : List ℕ) → Type 0
 Follow [] tys text others rest = (tys ≡ others) × (text ≡ rest)
 Follow (batch ∷ batches) tys text others rest = (more middle : List ℕ) × (tys ≡ batch.tys.now ++ more) × (batch.bytes.now ≡ text) × EndsAt batch.tys.now text middle × Follow batches more middle others rest
 
--- batches of the first of these types, at the front of the text, and what is left behind them: none only where no type is
+-- batches of the first of these types, at the front of the text, and what is left behind them. There may be no batch only
+-- where no type is left
 pub record Finds (batches : List Batch) (tys text others rest : List ℕ) : Type 0 where
   pub follow : Follow batches tys text others rest
   pub inside : length rest ≤ length text

@@ -1,8 +1,7 @@
 //! The limits on the parts of a module, in their order.
-ghost use Rattle.std.specs.Prelude.{◌≡◌, ◌<◌, ◌≤◌, [], ◌∷◌, ℕ, List, map, length, count_by, IfOk, None};
+ghost use Rattle.std.specs.Prelude.{◌≡◌, ◌≤◌, List, length, count_by, IfOk};
 ghost use Rattle.gu_types.specs.declared.types.SubType.{SubType};
-ghost use Rattle.gu_read.specs.Limits.{is_func, is_global, funcs_in, globals_in};
-ghost use Rattle.gu_read.specs.Limits.{locals_of, first_above, exceeded_or, exceeded};
+ghost use Rattle.gu_read.specs.Limits.{is_func, is_global, first_above, exceeded_or, exceeded};
 ghost use Rattle.gu_read.specs.Rows.{first_rows, type_rows, local_rows, depth_rows};
 ghost use Rattle.gu_read.specs.Seen.{Sees};
 ghost use Rattle.gu_read.specs.Limits as L;
