@@ -176,16 +176,14 @@ all_belong f longs (x ∷ xs) h (suc c) = all_belong f longs xs (All-tail (Belon
 module _ (f : Facts) (longs : List ℕ) (links : List Link) (n : ℕ) (z : List Content) (records : List (List Entry)) where
   pub is_track : All (BelongsTo f longs) z → length records ≡ n → ((j : ℕ) (entries : List Entry) → slice_get records j ≡ Some entries → IsWork f links j n entries) → RecordsBelong f longs records → CoversAll f records (at z) → Settled records (at z)
       → IsTrack f longs links n (at z) records
-  is_track are long works belong covers settled =
-      let joins = all_leave_joins f links n records works in record {
-        long = long;
-        works = works;
-        bounded = records_bounded f longs (at z) (record { at = all_belong f longs z are }) records belong covers joins;
-        joins = joins;
-        belong = belong;
-        covers = covers;
-        settled = settled;
-      }
+  is_track are long works belong covers settled = record {
+    long = long;
+    works = works;
+    bounded = records_bounded f longs (at z) (record { at = all_belong f longs z are }) records belong covers (all_leave_joins f links n records works);
+    belong = belong;
+    covers = covers;
+    settled = settled;
+  }
 
   pub track_is_least : (ceilings : List Content) → 0 < n → Least f links (at ceilings) → ((c : ℕ) → AtMost f (at z c) (at ceilings c)) → All (BelongsTo f longs) z → IsTrack f longs links n (at z) records → Least f links (at z)
   track_is_least ceilings some least capped belong t =
