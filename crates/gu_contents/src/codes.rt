@@ -7,7 +7,7 @@ ghost use Rattle.gu_contents.specs.declared.content.Content.TheVariants as C;
 
 use crate::content::{Content, Core};
 use crate::longs::Longs;
-use crate::same::abs_number;
+use gu_rec::abs_number;
 use gu_types::{Abs, HeapType};
 
 /// A tag with 32 bits above it.

@@ -5,27 +5,8 @@ ghost use Rattle.gu_rec.specs.Tests as tests;
 ghost use Rattle.gu_contents.specs.Contents as contents;
 
 use crate::content::{Content, Core};
+use gu_rec::abs_number;
 use gu_types::{Abs, HeapType};
-
-/// A number for each abstract heap type, to tell them apart.
-pub(crate) fn abs_number(kind: Abs) -> u8
-    ensures { result ≡ tests.abs_number kind }
-{
-    match kind {
-        Abs::Any => 0,
-        Abs::Eq => 1,
-        Abs::I31 => 2,
-        Abs::AnyStruct => 3,
-        Abs::AnyArray => 4,
-        Abs::Bot => 5,
-        Abs::AnyFunc => 6,
-        Abs::NoFunc => 7,
-        Abs::Extern => 8,
-        Abs::NoExtern => 9,
-        Abs::Exn => 10,
-        Abs::NoExn => 11,
-    }
-}
 
 /// Whether a heap type is the bottom of a tree.
 pub(crate) fn is_bottom(heap: HeapType) -> bool

@@ -9,8 +9,8 @@ ghost use Rattle.gu_rec.specs.Heights as heights;
 
 use gu_types::{Abs, HeapType};
 
-/// A number for each abstract heap type, to tell them apart.
-fn abs_number(kind: Abs) -> u8
+/// A number below 12 for each abstract heap type, to tell them apart.
+pub fn abs_number(kind: Abs) -> u8
     ensures { result ≡ tests.abs_number kind }
 {
     match kind {

@@ -14,6 +14,7 @@ mod names;
 mod place;
 mod types;
 
+pub use abs::abs_number;
 pub use error::RecErr;
 pub use interning::intern;
 pub use place::Place;
