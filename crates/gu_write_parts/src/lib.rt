@@ -5,8 +5,10 @@
 
 mod error;
 mod put;
+mod room;
 mod types;
 
 pub use error::WriteErr;
 pub use put::{Form, IndexForm, LIMIT, put_byte, put_bytes, put_size, put_sized, put_vector};
+pub use room::{fill_size, leave_size};
 pub use types::{ValTypeForm, abstract_byte, put_heap, put_ref, put_val};
