@@ -12,7 +12,7 @@ use crate::code::put_body;
 use gu_bytes::put_u32;
 use gu_syntax::Func;
 use gu_types::ValType;
-use gu_write_parts::{Form, LIMIT, WriteErr, put_val, put_vector};
+use gu_write_parts::{Form, LIMIT, WriteErr, fill_size, put_byte, put_val, put_vector};
 use std::alloc::Global;
 
 /// Appends the code entry of a function: its size, the runs of its locals and its body (core
@@ -28,7 +28,8 @@ pub fn write_entry(alloc: Global, out: &mut Vec<u8>, f: &Func) -> Result<(), Wri
     ensures partly { OnErr result (GrowsByFront (encode_func f.now) out.old.items out.new.items) }
 {
     let mut content = Vec::new(alloc);
-    put_entry(alloc, &mut content, out, f)
+    put_content(alloc, &mut content, f)?;
+    append_sized(alloc, out, content.as_slice())
 }
 
 /// Appends the code entries of functions, one behind the other.
@@ -40,9 +41,8 @@ pub fn write_entries(alloc: Global, out: &mut Vec<u8>, funcs: &[Func]) -> Result
     ensures ok { OnOk result (out.new.items ≡ out.old.items ++ encode_items encode_func funcs.now) }
     ensures too_long { IfErr result (BlamesEnd out.old.items (encode_items encode_func funcs.now)) }
 {
-    let mut content = Vec::new(alloc);
     'funcs: for func in funcs {
-        put_entry(alloc, &mut content, out, func)?;
+        put_in_place(alloc, out, func)?;
         if out.len() > LIMIT {
             return Err(WriteErr::TooLong);
         }
@@ -50,22 +50,17 @@ pub fn write_entries(alloc: Global, out: &mut Vec<u8>, funcs: &[Func]) -> Result
     Ok(())
 }
 
-/// Appends a code entry, and leaves its content in a buffer that is used again.
-fn put_entry(
-    alloc: Global,
-    content: &mut Vec<u8>,
-    out: &mut Vec<u8>,
-    f: &Func,
-) -> Result<(), WriteErr>
+/// Appends a code entry, whose content is written in its place, behind room for its size.
+fn put_in_place(alloc: Global, out: &mut Vec<u8>, f: &Func) -> Result<(), WriteErr>
     requires { IsShapedFunc f.now }
     ensures ok { OnOk result (out.new.items ≡ out.old.items ++ encode_func f.now) }
-    ensures short { OnOk result (length (encode_func f.now) ≤ 268435456) }
-    ensures too_long { IfErr result (BlamesLength (encode_func f.now)) }
-    ensures partly { OnErr result (GrowsByFront (encode_func f.now) out.old.items out.new.items) }
+    ensures too_long { IfErr result (BlamesEnd out.old.items (encode_func f.now)) }
 {
-    content.clear();
-    put_content(alloc, content, f)?;
-    append_sized(alloc, out, content.as_slice())
+    let place = out.len();
+    put_byte(out, 0)?;
+    put_content(alloc, out, f)?;
+    fill_size(alloc, out, place, 1)?;
+    Ok(())
 }
 
 /// Appends the runs of locals and the body of a function.
