@@ -1,11 +1,13 @@
 -- What pieces in order are: the entries of all functions.
-use Rattle.std.proofs.Common.{ℕ, zero, suc, get_or, ◌+◌, ◌<◌, ◌≡◌, ◌≤◌, List, [], ◌∷◌, ◌++◌, length, arith, refl, sym, ap, ◌∙◌, length-append, append_assoc, Ok, Err, inl, inr, Bor}
+use Rattle.std.proofs.Common.{ℕ, zero, suc, get_or, ◌+◌, ◌<◌, ◌≡◌, List, [], ◌∷◌, ◌++◌, length, arith, refl, sym, ap, subst, ◌∙◌, length-append, append_assoc, Ok, Err, Bor, Vec}
 use Rattle.std.specs.List.{AllByRecursion, AllZip}
+use Rattle.std.specs.declared.alloc.Global.{Global}
+use Rattle.std.proofs.lemmas.List.{append-nil}
 use Rattle.gu_syntax.specs.declared.module.Func.{Func}
-use Rattle.gu_bytes.specs.Numbers.{least_unsigned}
-use Rattle.gu_syntax.specs.Encoding.{encode_items, encode_vector, sized, section, encode_func}
+use Rattle.gu_syntax.specs.Encoding.{encode_items, encode_func}
+use Rattle.gu_write_parts.specs.declared.error.WriteErr.{WriteErr}
 use Rattle.gu_write_parts.specs.declared.error.WriteErr.TheVariants.{TooLong}
-use Rattle.gu_write.specs.Pieces.{Piece, IsPiece, ArePieces, pieces_text, IsMade, SomeTooLong, IsOver, rejoined, joined_text}
+use Rattle.gu_write.specs.Pieces.{Piece, IsPiece, ArePieces, Appends, rejoined}
 
 items-append : {X : Type 0} (encode : X → List ℕ) (xs ys : List X) → encode_items encode (xs ++ ys) ≡ encode_items encode xs ++ encode_items encode ys
 items-append encode [] ys = refl
@@ -30,60 +32,60 @@ all_at P [] k d h all = absurd (omega (arith, h))
 all_at P (x ∷ xs) zero d h all = all.0
 all_at P (x ∷ xs) (suc k) d h all = all_at P xs k d (omega (arith, h)) all.1
 
-abbrev text : List (Bor (List Func)) → List ℕ
-text bs = encode_items encode_func (rejoined bs)
-
-text_more : (b : Bor (List Func)) (bs : List (Bor (List Func))) → text (b ∷ bs) ≡ encode_items encode_func b.now ++ text bs
-text_more b bs = items-append encode_func b.now (rejoined bs)
-
 abbrev Each : List (Bor (List Func)) → List Piece → Type 0
 Each bs ps = AllZip (λ (b : Bor (List Func)) p. IsPiece b.now p) bs ps
 
-whole : (bs : List (Bor (List Func))) (ps : List Piece) → Each bs ps → AllByRecursion IsMade ps → pieces_text ps ≡ text bs
-whole [] [] each made = refl
-whole [] (p ∷ ps) each made = absurd each
-whole (b ∷ bs) [] each made = absurd each
-whole (b ∷ bs) (Ok v ∷ ps) each made = ap (λ xs. xs ++ pieces_text ps) each.0 ∙ ap (λ xs. encode_items encode_func b.now ++ xs) (whole bs ps each.1 made.1) ∙ sym (text_more b bs)
-whole (b ∷ bs) (Err e ∷ ps) each made = absurd made.0
+-- the functions whose entries are to be appended are these, with pieces that are left for them
+pub record Pending (funcs : List Func) (old out : List ℕ) (left : List Piece) : Type 0 where
+  pub batches : List (Bor (List Func))
+  pub each : Each batches left
+  pub whole : out ++ encode_items encode_func (rejoined batches) ≡ old ++ encode_items encode_func funcs
 
-longer : (bs : List (Bor (List Func))) (ps : List Piece) → Each bs ps → length (pieces_text ps) ≤ length (text bs)
-longer [] [] each = omega arith
-longer [] (p ∷ ps) each = absurd each
-longer (b ∷ bs) [] each = absurd each
-longer (b ∷ bs) (Ok v ∷ ps) each = omega (arith, longer bs ps each.1, ap length each.0, ap length (text_more b bs), length-append v.items (pieces_text ps), length-append (encode_items encode_func b.now) (text bs))
-longer (b ∷ bs) (Err e ∷ ps) each = omega (arith, longer bs ps each.1, ap length (text_more b bs), length-append (encode_items encode_func b.now) (text bs))
+pub pending_begins : (funcs : List Func) (old : List ℕ) (all : List Piece) → ArePieces funcs all → Pending funcs old old all
+pending_begins funcs old all are = record { batches = are.batches; each = are.each; whole = ap (λ fs. old ++ encode_items encode_func fs) are.whole }
 
-one : (b : Bor (List Func)) (bs : List (Bor (List Func))) (p : Piece) → IsPiece b.now p → p ≡ Err TooLong → 268435456 < length (text (b ∷ bs))
-one b bs (Ok v) is e = cc
-one b bs (Err e) is failed =
-    let long : 268435456 < length (encode_items encode_func b.now) = is (cc) in
-    omega (arith, ap length (text_more b bs), length-append (encode_items encode_func b.now) (text bs))
+-- the text of one batch before that of the others
+batch_first : (b : Bor (List Func)) (bs : List (Bor (List Func))) (out text : List ℕ) → out ++ encode_items encode_func (rejoined (b ∷ bs)) ≡ text → out ++ (encode_items encode_func b.now ++ encode_items encode_func (rejoined bs)) ≡ text
+batch_first b bs out text so = ap (λ xs. out ++ xs) (sym (items-append encode_func b.now (rejoined bs))) ∙ so
 
-some : (bs : List (Bor (List Func))) (ps : List Piece) → Each bs ps → SomeTooLong ps → 268435456 < length (text bs)
-some bs [] each over = absurd over
-some [] (p ∷ ps) each over = absurd each
-some (b ∷ bs) (p ∷ ps) each (inl here) = one b bs p each.0 here
-some (b ∷ bs) (p ∷ ps) each (inr there) = omega (arith, some bs ps each.1 there, ap length (text_more b bs), length-append (encode_items encode_func b.now) (text bs))
+take_piece : (funcs : List Func) (old out new : List ℕ) (bytes : Vec ℕ Global) (left : List Piece) (batches : List (Bor (List Func))) → Each batches (Ok bytes ∷ left) → out ++ encode_items encode_func (rejoined batches) ≡ old ++ encode_items encode_func funcs → new ≡ out ++ bytes.items → Pending funcs old new left
+take_piece funcs old out new bytes left [] each so put = absurd each
+take_piece funcs old out new bytes left (b ∷ bs) each so put = record {
+  batches = bs;
+  each = each.1;
+  whole = ap (λ xs. xs ++ encode_items encode_func (rejoined bs)) (put ∙ ap (λ xs. out ++ xs) each.0) ∙ append_assoc out (encode_items encode_func b.now) (encode_items encode_func (rejoined bs)) ∙ batch_first b bs out (old ++ encode_items encode_func funcs) so;
+}
 
--- the pieces that were made are the entries
-pub pieces_are : (funcs : List Func) (ps : List Piece) → ArePieces funcs ps → AllByRecursion IsMade ps → pieces_text ps ≡ encode_items encode_func funcs
-pieces_are funcs ps are made = whole are.batches ps are.each made ∙ ap (encode_items encode_func) are.whole
+-- a piece is appended
+pub pending_on : (funcs : List Func) (old out new : List ℕ) (piece : Piece) (bytes : Vec ℕ Global) (all left : List Piece) → Pending funcs old out all → all ≡ piece ∷ left → piece ≡ Ok bytes → new ≡ out ++ bytes.items → Pending funcs old new left
+pending_on funcs old out new piece bytes all left so first made put = take_piece funcs old out new bytes left so.batches (subst (λ ps. Each so.batches ps) (first ∙ ap (λ p. p ∷ left) made) so.each) so.whole put
 
-over_entries : (bs : List (Bor (List Func))) (ps : List Piece) → Each bs ps → IsOver ps → 268435456 < length (text bs)
-over_entries bs ps each (inl long) = omega (arith, longer bs ps each)
-over_entries bs ps each (inr over) = some bs ps each over
+long_text : (funcs : List Func) (old out : List ℕ) (b : Bor (List Func)) (bs : List (Bor (List Func))) → out ++ encode_items encode_func (rejoined (b ∷ bs)) ≡ old ++ encode_items encode_func funcs → 268435456 < length out + length (encode_items encode_func b.now) → 268435456 < length old + length (encode_items encode_func funcs)
+long_text funcs old out b bs so past =
+    let one = encode_items encode_func b.now in
+    let others = encode_items encode_func (rejoined bs) in
+    omega (arith, past, ap length (batch_first b bs out (old ++ encode_items encode_func funcs) so), length-append out (one ++ others), length-append one others, length-append old (encode_items encode_func funcs))
 
-section_full : (funcs : List Func) → 0 < length funcs → section 10 encode_func funcs ≡ 10 ∷ sized (encode_vector encode_func funcs)
-section_full [] h = absurd (omega (arith, h))
-section_full (f ∷ fs) h = refl
+piece_long : (funcs : List Func) (old out : List ℕ) (bytes : Vec ℕ Global) (left : List Piece) (batches : List (Bor (List Func))) → Each batches (Ok bytes ∷ left) → out ++ encode_items encode_func (rejoined batches) ≡ old ++ encode_items encode_func funcs → 268435456 < length out + length bytes.items → 268435456 < length old + length (encode_items encode_func funcs)
+piece_long funcs old out bytes left [] each so past = absurd each
+piece_long funcs old out bytes left (b ∷ bs) each so past = long_text funcs old out b bs so (subst (λ xs. 268435456 < length out + length xs) each.0 past)
 
--- the section, with the entries in pieces
-pub section_is : (funcs : List Func) (ps : List Piece) → 0 < length funcs → ArePieces funcs ps → AllByRecursion IsMade ps → section 10 encode_func funcs ≡ joined_text (length funcs) ps
-section_is funcs ps h are made = section_full funcs h ∙ ap (λ bs. 10 ∷ sized (least_unsigned (length funcs) ++ bs)) (sym (pieces_are funcs ps are made))
+-- a piece that would end past the limit
+pub pending_long : (funcs : List Func) (old out : List ℕ) (piece : Piece) (bytes : Vec ℕ Global) (all left : List Piece) → Pending funcs old out all → all ≡ piece ∷ left → piece ≡ Ok bytes → 268435456 < length out + length bytes.items → 268435456 < length old + length (encode_items encode_func funcs)
+pending_long funcs old out piece bytes all left so first made past = piece_long funcs old out bytes left so.batches (subst (λ ps. Each so.batches ps) (first ∙ ap (λ p. p ∷ left) made) so.each) so.whole past
 
--- where the pieces show that the limit is passed, the section passes it
-pub section_over : (old : List ℕ) (funcs : List Func) (ps : List Piece) → 0 < length funcs → ArePieces funcs ps → IsOver ps → 268435456 < length old + length (section 10 encode_func funcs)
-section_over old funcs ps h are over =
-    let entries = over_entries are.batches ps are.each over in
-    let content = encode_vector encode_func funcs in
-    omega (arith, entries, ap (λ fs. length (encode_items encode_func fs)) are.whole, ap length (section_full funcs h), length-append (least_unsigned (length funcs)) (encode_items encode_func funcs), length-append (least_unsigned (length content)) content)
+unmade_long : (funcs : List Func) (old out : List ℕ) (error : WriteErr) (left : List Piece) (batches : List (Bor (List Func))) → Each batches (Err error ∷ left) → out ++ encode_items encode_func (rejoined batches) ≡ old ++ encode_items encode_func funcs → error ≡ TooLong → 268435456 < length old + length (encode_items encode_func funcs)
+unmade_long funcs old out error left [] each so is = absurd each
+unmade_long funcs old out error left (b ∷ bs) each so is = long_text funcs old out b bs so (omega (arith, each.0 is))
+
+-- a piece that was not made
+pub pending_fails : (funcs : List Func) (old out new : List ℕ) (piece : Piece) (error : WriteErr) (all left : List Piece) → Pending funcs old out all → all ≡ piece ∷ left → piece ≡ Err error → Appends funcs old new (Err error)
+pending_fails funcs old out new piece error all left so first failed = (tt, λ is. unmade_long funcs old out error left so.batches (subst (λ ps. Each so.batches ps) (first ∙ ap (λ p. p ∷ left) failed) so.each) so.whole is)
+
+none_left : (funcs : List Func) (old out : List ℕ) (batches : List (Bor (List Func))) → Each batches [] → out ++ encode_items encode_func (rejoined batches) ≡ old ++ encode_items encode_func funcs → out ≡ old ++ encode_items encode_func funcs
+none_left funcs old out [] each so = sym (append-nil out) ∙ so
+none_left funcs old out (b ∷ bs) each so = absurd each
+
+-- all pieces are appended
+pub pending_ends : (funcs : List Func) (old out : List ℕ) (left : List Piece) → Pending funcs old out left → left ≡ [] → Appends funcs old out (Ok tt)
+pending_ends funcs old out left so none = (none_left funcs old out so.batches (subst (λ ps. Each so.batches ps) none so.each) so.whole, tt)

@@ -4,6 +4,7 @@ use Rattle.gu_types.specs.declared.types.SubType.{SubType}
 use Rattle.gu_bytes.specs.Numbers.{least_unsigned}
 use Rattle.gu_syntax.specs.Encoding.{encode_vector, section, encode_type_index, encode_comp, encode_group, encode_import, encode_table, encode_limits, encode_tag, encode_global, encode_export, encode_start, encode_elem, encode_count}
 use Rattle.gu_syntax.specs.declared.module.Module.{Module}
+use Rattle.gu_syntax.specs.Module.{header}
 use Rattle.gu_syntax.specs.Types.{final_byte}
 
 -- a subtype with what it declares of its place among the types
@@ -28,3 +29,7 @@ values_text m =
     ++ (encode_start m.start
     ++ (section 9 encode_elem m.elems
     ++ encode_count m.has_count (length m.segs))))
+
+-- what is before the code
+abbrev pub front_text : Module → List ℕ
+front_text m = header ++ (types_text m ++ values_text m)

@@ -1,15 +1,17 @@
 //! Modules (core specification 3.0, 5.5 Modules).
-ghost use Rattle.std.specs.Prelude.{◌≡◌, ◌++◌, ◌≤◌, length, IfOk, OnOk, IfErr};
+ghost use Rattle.std.specs.Prelude.{◌≡◌, ◌++◌, ◌≤◌, length, IfOk, IfSome, OnOk, IfErr};
+ghost use Rattle.std.specs.Thread.{IsSync};
 ghost use Rattle.std.specs.List.{AllByRecursion};
 ghost use Rattle.gu_syntax.specs.Encoding.{section};
 ghost use Rattle.gu_syntax.specs.declared.module.Module as tree;
 ghost use Rattle.gu_syntax.specs.Encoding.{encoding, encode_start, encode_count};
 ghost use Rattle.gu_syntax.specs.Module.{Spells};
-ghost use Rattle.gu_syntax.specs.Shape.{IsShaped};
+ghost use Rattle.gu_syntax.specs.Shape.{IsShaped, IsShapedFunc};
 ghost use Rattle.gu_write_parts.specs.Limit.{BlamesLength, BlamesEnd};
-ghost use Rattle.gu_write.specs.Parts.{types_text, values_text};
+ghost use Rattle.gu_write.specs.Parts.{types_text, values_text, front_text};
+ghost use Rattle.gu_write.specs.Pieces.{ArePieces, rejoined};
 
-use crate::code::put_code;
+use crate::code::{Made, batches, make_room, pieces, put_code};
 use crate::items::{
     ExportForm, GlobalForm, ImportForm, MemoryForm, TableForm, TagForm, TypeIndexForm,
 };
@@ -18,16 +20,20 @@ use crate::types::GroupForm;
 use gu_bytes::put_u32;
 use gu_syntax::Module;
 use gu_syntax::laws::one_reading;
-use gu_write_parts::{Form, LIMIT, WriteErr, put_byte, put_size, put_sized, put_vector};
-use std::alloc::Global;
-use std::thread::Threads;
+use gu_write_parts::{
+    Form, LIMIT, WriteErr, fill_size, leave_size, put_byte, put_size, put_sized, put_vector,
+};
+use rayon::current_num_threads;
+use std::alloc::{AllocError, Global};
+use std::thread::{Threads, join};
 
 /// The first bytes of a module: its magic and its version (5.5.17 Modules).
 const HEADER: [u8; 8] = [0x00, 0x61, 0x73, 0x6D, 0x01, 0x00, 0x00, 0x00];
 
 /// The one least text of a module, at most 268,435,456 bytes: it spells the module and no other (core
-/// specification 3.0, 5.5.17 Modules). Its code is written in as many threads as there are processors;
-/// where a thread cannot be started, its work is done in this one.
+/// specification 3.0, 5.5.17 Modules). Its code is written in as many threads as there are processors,
+/// and what is before the code in one more; where a thread cannot be started, its work is done in this
+/// one.
 ///
 /// `TooLong` exactly where the text has more than 268,435,456 bytes.
 pub fn write_module(
@@ -43,13 +49,66 @@ pub fn write_module(
     ensures too_long { IfErr result (BlamesLength (encoding m.now)) }
 {
     one_reading();
-    let mut out = Vec::from_slice(alloc, &HEADER)?;
-    put_types(alloc, &mut out, m)?;
-    put_values(alloc, &mut out, m)?;
-    put_code(rt, alloc, &mut out, m.funcs.as_slice())?;
+    let (before, pieces) = put_front(rt, alloc, m)?;
+    let mut out = before;
+    put_code(alloc, &mut out, m.funcs.as_slice(), pieces)?;
     put_section::<SegForm, _>(alloc, &mut out, 11, m.segs.as_slice())?;
     if out.len() > LIMIT {
         return Err(WriteErr::TooLong);
+    }
+    Ok(out)
+}
+
+/// What is before the code, and at the same time the pieces of the code, where there are several
+/// processors and the code is large.
+///
+/// `TooLong` where that would end past 268,435,456 bytes.
+fn put_front<R: Threads + Sync>(
+    rt: &R,
+    alloc: Global,
+    m: &Module,
+) -> Result<(Vec<u8>, Option<Vec<Made>>), WriteErr>
+    requires { IsShaped m.now }
+    ensures text { IfOk result (λ made. made.0.items ≡ front_text m.now) }
+    ensures pieces { IfOk result (λ made. IfSome made.1 (λ pieces. ArePieces m.now.funcs pieces.items)) }
+    ensures too_long { IfErr result (BlamesLength (front_text m.now)) }
+{
+    if current_num_threads(rt) < 2 {
+        return Ok((front(alloc, m, 0)?, None));
+    }
+    let batches = batches(alloc, m.funcs.as_slice())?;
+    if batches.len() < 2 {
+        return Ok((front(alloc, m, 0)?, None));
+    }
+    let batches = batches.as_slice();
+    let (pieces, before) = join(
+        rt,
+        || -> Result<Vec<Made>, AllocError>
+            requires { IsSync R.row × AllByRecursion IsShapedFunc (rejoined batches.now) }
+            ensures { IfOk result (λ pieces. ArePieces (rejoined batches.entry.now) pieces.items) }
+        { pieces(rt, alloc, batches) },
+        || -> Made
+            requires { IsShaped m.now }
+            ensures text { IfOk result (λ out. out.items ≡ front_text m.entry.now) }
+            ensures too_long { IfErr result (BlamesLength (front_text m.entry.now)) }
+        { front(alloc, m, batches.len()) },
+    );
+    Ok((before?, Some(pieces?)))
+}
+
+/// What is before the code, with room behind it for the pieces of so many batches.
+///
+/// `TooLong` where it would end past 268,435,456 bytes.
+fn front(alloc: Global, m: &Module, batches: usize) -> Made
+    requires { IsShaped m.now }
+    ensures text { IfOk result (λ out. out.items ≡ front_text m.now) }
+    ensures too_long { IfErr result (BlamesLength (front_text m.now)) }
+{
+    let mut out = Vec::from_slice(alloc, &HEADER)?;
+    put_types(alloc, &mut out, m)?;
+    put_values(alloc, &mut out, m)?;
+    if batches > 0 {
+        make_room(&mut out, batches);
     }
     Ok(out)
 }
@@ -95,10 +154,12 @@ fn put_section<F: Form<T>, T>(
     if items.is_empty() {
         return Ok(());
     }
-    let mut content = Vec::new(alloc);
-    put_vector::<F, T>(alloc, &mut content, items)?;
     put_byte(out, id)?;
-    put_sized(out, content.as_slice())
+    let place = out.len();
+    let room = leave_size(out)?;
+    put_vector::<F, T>(alloc, out, items)?;
+    fill_size(alloc, out, place, room)?;
+    Ok(())
 }
 
 /// Appends the start section, or nothing where there is no such function (5.5.11 Start Section).

@@ -2,4 +2,4 @@ use Rattle.std.proofs.Common.{◌<◌}
 use Rattle.gu_write.proofs.code.batch_len.Given as goal
 
 abbrev pub invariant-loop-index : goal.invariant-loop-index
-invariant-loop-index l = l.work < 4096
+invariant-loop-index l = l.work < 16384
