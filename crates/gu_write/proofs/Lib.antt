@@ -1,4 +1,4 @@
-pub mod Sums
+pub mod Batching
 pub mod Joined
 pub mod Whole
 pub mod Examples

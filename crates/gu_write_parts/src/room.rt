@@ -7,7 +7,7 @@ ghost use Rattle.gu_write_parts.specs.Room.{LeavesRoom, PutsByte};
 use crate::put::{LIMIT, put_size};
 use std::alloc::{AllocError, Global};
 
-/// How many bytes most sizes of sections have.
+/// How many bytes the size of a section of 2 megabytes or more has.
 const USUAL: usize = 4;
 
 /// Leaves room for the size of what is appended next, and gives how many bytes it leaves: four, or

@@ -1,4 +1,4 @@
-use Rattle.gu_write.proofs.Sums.{batch_more}
+use Rattle.gu_write.proofs.Batching.{batch_more}
 use Rattle.gu_write.proofs.code.batches.Goals as goal
 
 pub batches-preserved : goal.batches-preserved
