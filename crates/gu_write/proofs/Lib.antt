@@ -1,4 +1,3 @@
-pub mod Batching
 pub mod Joined
 pub mod Whole
 pub mod Examples

@@ -2,6 +2,7 @@
 #![tactic(auto)]
 
 mod code;
+mod entries;
 mod items;
 mod module;
 mod segments;

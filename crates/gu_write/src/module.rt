@@ -1,39 +1,43 @@
 //! Modules (core specification 3.0, 5.5 Modules).
 ghost use Rattle.std.specs.Prelude.{◌≡◌, ◌++◌, ◌≤◌, length, IfOk, IfSome, OnOk, IfErr};
-ghost use Rattle.std.specs.Thread.{IsSync};
 ghost use Rattle.std.specs.List.{AllByRecursion};
 ghost use Rattle.gu_syntax.specs.Encoding.{section};
 ghost use Rattle.gu_syntax.specs.declared.module.Module as tree;
 ghost use Rattle.gu_syntax.specs.Encoding.{encoding, encode_start, encode_count};
 ghost use Rattle.gu_syntax.specs.Module.{Spells};
-ghost use Rattle.gu_syntax.specs.Shape.{IsShaped, IsShapedFunc};
+ghost use Rattle.gu_syntax.specs.Shape.{IsShaped};
 ghost use Rattle.gu_write_parts.specs.Limit.{BlamesLength, BlamesEnd};
 ghost use Rattle.gu_write.specs.Parts.{types_text, values_text, front_text};
-ghost use Rattle.gu_write.specs.Pieces.{ArePieces, rejoined};
+ghost use Rattle.gu_write.specs.Pieces.{ArePieces};
 
-use crate::code::{Made, batches, make_room, pieces, put_code};
+use crate::code::{make_room, put_code};
+use crate::entries::{Entries, Made, piece_len};
 use crate::items::{
     ExportForm, GlobalForm, ImportForm, MemoryForm, TableForm, TagForm, TypeIndexForm,
 };
 use crate::segments::{ElemForm, SegForm};
 use crate::types::GroupForm;
 use gu_bytes::put_u32;
+use gu_parallel::{Part, do_parts};
 use gu_syntax::Module;
 use gu_syntax::laws::one_reading;
 use gu_write_parts::{
     Form, LIMIT, WriteErr, fill_size, leave_size, put_byte, put_size, put_sized, put_vector,
 };
 use rayon::current_num_threads;
-use std::alloc::{AllocError, Global};
-use std::thread::{Threads, join};
+use std::alloc::Global;
+use std::thread::Threads;
 
 /// The first bytes of a module: its magic and its version (5.5.17 Modules).
 const HEADER: [u8; 8] = [0x00, 0x61, 0x73, 0x6D, 0x01, 0x00, 0x00, 0x00];
 
+/// For how many bytes of each function there is room behind what is before the code.
+const FUNC_ROOM: usize = 32;
+
 /// The one least text of a module, at most 268,435,456 bytes: it spells the module and no other (core
-/// specification 3.0, 5.5.17 Modules). Its code is written in as many threads as there are processors,
-/// and what is before the code in one more; where a thread cannot be started, its work is done in this
-/// one.
+/// specification 3.0, 5.5.17 Modules). As many threads as there are processors share its code, where that
+/// is large: this one too, once it has written what is before the code. What none of them takes of the
+/// code is written in this one at the end.
 ///
 /// `TooLong` exactly where the text has more than 268,435,456 bytes.
 pub fn write_module(
@@ -59,47 +63,45 @@ pub fn write_module(
     Ok(out)
 }
 
-/// What is before the code, and at the same time the pieces of the code, where there are several
-/// processors and the code is large.
+/// What is before the code, and at the same time pieces of the code, where there are several processors
+/// and the code is large.
 ///
 /// `TooLong` where that would end past 268,435,456 bytes.
 fn put_front<R: Threads + Sync>(
     rt: &R,
     alloc: Global,
     m: &Module,
-) -> Result<(Vec<u8>, Option<Vec<Made>>), WriteErr>
+) -> Result<(Vec<u8>, Option<Vec<Part<Made>>>), WriteErr>
     requires { IsShaped m.now }
     ensures text { IfOk result (λ made. made.0.items ≡ front_text m.now) }
-    ensures pieces { IfOk result (λ made. IfSome made.1 (λ pieces. ArePieces m.now.funcs pieces.items)) }
+    ensures pieces { IfOk result (λ made. IfSome made.1 (λ pieces. ArePieces m.now.funcs 0 pieces.items)) }
     ensures too_long { IfErr result (BlamesLength (front_text m.now)) }
 {
-    if current_num_threads(rt) < 2 {
+    let funcs = m.funcs.as_slice();
+    let count = funcs.len();
+    if current_num_threads(rt) < 2 || piece_len(funcs) == count {
         return Ok((front(alloc, m, 0)?, None));
     }
-    let batches = batches(alloc, m.funcs.as_slice())?;
-    if batches.len() < 2 {
-        return Ok((front(alloc, m, 0)?, None));
-    }
-    let batches = batches.as_slice();
-    let (pieces, before) = join(
+    let entries = Entries { alloc, funcs };
+    let (before, pieces) = do_parts(
         rt,
-        || -> Result<Vec<Made>, AllocError>
-            requires { IsSync R.row × AllByRecursion IsShapedFunc (rejoined batches.now) }
-            ensures { IfOk result (λ pieces. ArePieces (rejoined batches.entry.now) pieces.items) }
-        { pieces(rt, alloc, batches) },
+        alloc,
+        &entries,
+        count as u64,
+        count,
         || -> Made
             requires { IsShaped m.now }
             ensures text { IfOk result (λ out. out.items ≡ front_text m.entry.now) }
             ensures too_long { IfErr result (BlamesLength (front_text m.entry.now)) }
-        { front(alloc, m, batches.len()) },
+        { front(alloc, m, count.saturating_mul(FUNC_ROOM)) },
     );
     Ok((before?, Some(pieces?)))
 }
 
-/// What is before the code, with room behind it for the pieces of so many batches.
+/// What is before the code, with room behind it for so many more bytes.
 ///
 /// `TooLong` where it would end past 268,435,456 bytes.
-fn front(alloc: Global, m: &Module, batches: usize) -> Made
+fn front(alloc: Global, m: &Module, room: usize) -> Made
     requires { IsShaped m.now }
     ensures text { IfOk result (λ out. out.items ≡ front_text m.now) }
     ensures too_long { IfErr result (BlamesLength (front_text m.now)) }
@@ -107,8 +109,8 @@ fn front(alloc: Global, m: &Module, batches: usize) -> Made
     let mut out = Vec::from_slice(alloc, &HEADER)?;
     put_types(alloc, &mut out, m)?;
     put_values(alloc, &mut out, m)?;
-    if batches > 0 {
-        make_room(&mut out, batches);
+    if room > 0 {
+        make_room(&mut out, room);
     }
     Ok(out)
 }
