@@ -7,11 +7,13 @@ Usage: bench/workers.py [--cores N] [--size BYTES] [--runs N] [--kinds NAME,..] 
        processors than there are)
 
 Prints, for each kind of module (bench/modules.py), the milliseconds that reading and writing take on
-one processor and on so many, and how many times as fast the latter is; and how many times as much as
-one alone so many programs at once do there, each on a processor of its own, which is as much as can
-be hoped for. The runs take turns, each time with another one alone, and the middle of them all
-counts: first for the first turn in a process, whose memory nobody touched before, then for the turns
-behind it. What is dropped between turns is left out.
+one processor and on so many, and how many times as fast the latter is; how many times as much as one
+alone so many programs at once do there, each on a processor of its own, which is as much as can be
+hoped for; and which share of the work on so many processors the host of a virtual machine took away
+meanwhile (`steal` in /proc/stat): the machine was at rest only where that is near 0. The runs take
+turns, each time with another one alone, and the middle of them all counts: first for the first turn in
+a process, whose memory nobody touched before, then for the turns behind it. What is dropped between
+turns is left out.
 """
 import argparse
 import os
@@ -24,6 +26,13 @@ from modules import KINDS
 STEPS = ("read", "write")
 # How many turns a run has.
 TURNS = 5
+
+
+def taken():
+    """How long all processors worked so far, and how long the host kept them from it."""
+    with open("/proc/stat") as file:
+        user, nice, system, _, _, irq, softirq, steal = map(int, file.readline().split()[1:9])
+    return user + nice + system + irq + softirq, steal
 
 
 def turns(program, step, text, cores):
@@ -47,13 +56,19 @@ def middle(runs):
 
 def measured(program, step, text, cores, times):
     """The middle of the turns on one processor, of those of so many programs at once, and of those
-    on so many processors, from so many runs of each."""
+    on so many processors, from so many runs of each; and what share of the last ones was stolen."""
     alone, together, threads = [], [], []
+    worked = stolen = 0
     for index in range(times):
         alone.append(turns(program, step, text, [index % cores]))
         together += at_once(program, step, text, cores)
+        before = taken()
         threads.append(turns(program, step, text, cores))
-    return zip(middle(alone), middle(together), middle(threads))
+        after = taken()
+        worked += after[0] - before[0]
+        stolen += after[1] - before[1]
+    share = stolen / max(1, worked + stolen)
+    return zip(middle(alone), middle(together), middle(threads)), share
 
 
 def main():
@@ -65,15 +80,16 @@ def main():
     parser.add_argument("program", nargs="?", default=built("gu_steps_main"))
     asked = parser.parse_args()
     cores = min(asked.cores, len(os.sched_getaffinity(0)))
-    print(f"{'kind':24}{'step':8}{'turn':9}{'1 ms':>8}{f'{cores} ms':>8}{'ratio':>7}{'at once':>9}")
+    columns = f"{'1 ms':>8}{f'{cores} ms':>8}{'ratio':>7}{'at once':>9}{'stolen':>8}"
+    print(f"{'kind':24}{'step':8}{'turn':9}{columns}")
     for kind in asked.kinds.split(","):
         text = KINDS[kind](asked.size)
         for step in STEPS:
-            rows = measured(asked.program, step, text, cores, asked.runs)
+            rows, share = measured(asked.program, step, text, cores, asked.runs)
             for turn, (alone, together, threads) in zip(("first", "further"), rows):
                 print(
                     f"{kind:24}{step:8}{turn:9}{alone:8.1f}{threads:8.1f}{alone / threads:7.2f}"
-                    f"{cores * alone / together:9.2f}",
+                    f"{cores * alone / together:9.2f}{100 * share:7.0f}%",
                     flush=True,
                 )
 
