@@ -1,15 +1,15 @@
 -- Where code entries end, by their sizes.
-use Rattle.std.proofs.Common.{ℕ, ◌+◌, ◌<◌, ◌≡◌, ◌≢◌, refl, ap, ◌∙◌, sym, subst, List, [], ◌∷◌, ◌++◌, length, take, drop, nat_lt, cond, Bool, true, false}
-use Rattle.std.proofs.lemmas.List.{take_more, drop_more, take-append-drop}
+use Rattle.std.proofs.Common.{ℕ, ◌+◌, ◌-◌, ◌<◌, ◌≡◌, ◌≢◌, refl, ap, ◌∙◌, sym, subst, List, [], ◌∷◌, ◌++◌, length, take, drop, nat_lt, cond, Bool, true, false, append_assoc, length-append, arith}
+use Rattle.std.proofs.lemmas.List.{take_more, drop_more, take-append-drop, drop_at}
 use Rattle.std.proofs.Math.Seq.{take-length}
 use Rattle.gu_syntax.specs.declared.module.Func.{Func}
 use Rattle.gu_syntax.specs.Reading.{Item, Size, Read, got, stops, refused, ◌>>=◌, u32_as, both_at, whole, content_at, sized_at, locals_at, body_at, entry_of, entry_at, func_at, entries_at}
-use Rattle.gu_syntax.proofs.Decodes.{bind_got, rest_is, refused-got, whole_got}
+use Rattle.gu_syntax.proofs.Decodes.{bind_got, rest_is, refused-got, whole_got, u32_decodes}
 use Rattle.gu_read_parts.specs.declared.stop.Stop.{Stop}
 use Rattle.gu_read_parts.specs.declared.stop.Stop.TheVariants as S
 use Rattle.gu_read_parts.specs.Gives.{Fails, item_of, front_of, front_as}
 use Rattle.gu_read_parts.proofs.Vectors.{behind, behind-none}
-use Rattle.gu_read.specs.Batches.{EndsAt}
+use Rattle.gu_read.specs.Shares.{EndsAt, IsBehind}
 
 -- entries of some types and of others behind them
 cons_behind : (f : Func) (fs : List Func) (r : Read (List Func)) → (behind fs r >>= λ gs back. got (f ∷ gs) back) ≡ behind (f ∷ fs) r
@@ -57,6 +57,28 @@ func_fails : (ty : ℕ) (text back : List ℕ) (func : Func) (item : Item) (left
 func_fails ty text back func item left e h =
     let b = bind_got (entry_at 1000 text) (λ x rest. got (entry_of ty x) rest) func back h in
     sized_fails (both_at locals_at (body_at 1000)) text b.1 b.0 item left e b.2
+
+-- what is behind a content is behind it in the bytes
+test_behind : (test : Bool) (left size : ℕ) (mid content rest : List ℕ) → cond {A = Read (List ℕ)} test (refused Size left) (got (take size mid) (drop size mid)) ≡ got content rest → drop size mid ≡ rest
+test_behind true left size mid content rest h = absurd (refused-got Size left content rest h)
+test_behind false left size mid content rest h = rest_is (take size mid) content (drop size mid) rest h
+
+behind_front : (text front mid : List ℕ) (size : ℕ) → text ≡ front ++ mid → IsBehind (drop size mid) text
+behind_front text front mid size whole = (front ++ take size mid, whole ∙ ap (λ (t : List ℕ). front ++ t) (sym (take-append-drop size mid)) ∙ sym (append_assoc front (take size mid) (drop size mid)))
+
+pub content_behind : (text content rest : List ℕ) → front_as Size text ≡ got content rest → IsBehind rest text
+content_behind text content rest h =
+    let b = bind_got (u32_as Size text) (λ size more. front_of Size (length text) size more) content rest h in
+    let took = (u32_decodes 0 Size).taken text b.1 b.0 b.2 in
+    subst (λ (t : List ℕ). IsBehind t text) (test_behind (nat_lt (length b.1) b.0) (length text) b.0 b.1 content rest b.3) (behind_front text took.front b.1 b.0 took.whole)
+
+pub behind_on : (text mid rest : List ℕ) → IsBehind mid text → IsBehind rest mid → IsBehind rest text
+behind_on text mid rest h k = (h.0 ++ k.0, h.1 ∙ ap (λ (t : List ℕ). h.0 ++ t) k.1 ∙ sym (append_assoc h.0 k.0 rest))
+
+pub behind_dropped : (text rest : List ℕ) → IsBehind rest text → drop (length text - length rest) text ≡ rest
+behind_dropped text rest h =
+    let sum = ap length h.1 ∙ length-append h.0 rest in
+    ap (λ (t : List ℕ). drop (length text - length rest) t) h.1 ∙ drop_at h.0 rest (length text - length rest) (omega (arith, sum))
 
 -- before the first entry
 pub ends_begin : (text : List ℕ) → EndsAt [] text text

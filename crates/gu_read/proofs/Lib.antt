@@ -1,6 +1,6 @@
 pub mod Runs
 pub mod Ends
-pub mod Pieces
+pub mod Sharing
 pub mod Passed
 pub mod Closing
 pub mod Wholes

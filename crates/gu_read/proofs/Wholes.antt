@@ -13,7 +13,7 @@ use Rattle.gu_read.specs.declared.parts.Middle.{Middle}
 use Rattle.gu_read.specs.Standing.{AllStandFor, StandsForModule}
 use Rattle.gu_read.specs.Parts.{IsLate, IsMiddle, is_missing_in, module_of_parts}
 use Rattle.gu_read.proofs.Closing.{Holds}
-use Rattle.gu_read.proofs.Pieces.{no_items}
+use Rattle.gu_read.proofs.Sharing.{no_items}
 use Rattle.std.proofs.lemmas.Bool.Decides.{nat_tests}
 
 abbrev paired : {X Y : Type 0} → X → Read Y → Read (X × Y)

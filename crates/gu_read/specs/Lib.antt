@@ -1,5 +1,5 @@
 pub mod Standing
-pub mod Batches
+pub mod Shares
 pub mod Limits
 pub mod ReadsModule
 pub mod Parts

@@ -1,9 +1,9 @@
 //! The reader of modules (core specification 3.0, 5.5 Modules).
 #![tactic(auto)]
 
-mod batches;
 mod elems;
 mod entries;
+mod funcs;
 mod items;
 mod limits;
 mod missing;
@@ -12,6 +12,7 @@ mod parts;
 mod reader;
 mod sections;
 mod seen;
+mod shares;
 #[cfg(test)]
 mod tests;
 mod weighed;

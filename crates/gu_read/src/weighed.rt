@@ -3,7 +3,7 @@ ghost use Rattle.std.specs.Prelude.{◌≡◌, [], ◌∷◌, ◌++◌, length, 
 ghost use Rattle.gu_read.specs.Limits.{locals_of};
 ghost use Rattle.gu_read.specs.Rows.{capped, weight, weight_in};
 
-use gu_syntax::{Func, Module};
+use gu_syntax::{Body, Func, Module};
 use gu_types::List;
 use std::alloc::{AllocError, Global};
 use std::marker::Model;
@@ -51,6 +51,25 @@ impl WeighedFuncs {
         ensures { IfOk result (λ weighed. weighed ≡ []) }
     {
         let funcs = Vec::with_capacity(alloc, room)?;
+        Ok(WeighedFuncs { funcs, weight: 0 })
+    }
+
+    /// No functions, with room for so many that the system has given already.
+    pub fn with_touched_room(alloc: Global, room: usize) -> Result<WeighedFuncs, AllocError>
+        ensures { IfOk result (λ weighed. weighed ≡ []) }
+    {
+        let mut funcs = Vec::with_capacity(alloc, room)?;
+        'touched: for _ in 0..room {
+            let code = List::new(alloc);
+            let locals = List::new(alloc);
+            let body = Body { code };
+            funcs.push(Func {
+                ty: 0,
+                locals,
+                body,
+            })?;
+        }
+        funcs.clear();
         Ok(WeighedFuncs { funcs, weight: 0 })
     }
 

@@ -1,7 +1,7 @@
 use Rattle.std.proofs.Common.{◌≤◌, length, drop}
 use Rattle.gu_syntax.specs.Reading.{entries_at}
 use Rattle.gu_read.proofs.Runs.{Runs}
-use Rattle.gu_read.proofs.entries.read_run.Given as goal
+use Rattle.gu_read.proofs.funcs.read_run.Given as goal
 
 abbrev pub invariant-entries : goal.invariant-entries
 invariant-entries l = record {

@@ -2,7 +2,7 @@ use Rattle.std.proofs.Common.{ap, ◌∙◌, ◌∷◌, ◌++◌, []}
 use Rattle.std.proofs.lemmas.Result.{err_from_is_err_and}
 use Rattle.gu_types.specs.declared.types.ValType.TheVariants as V
 use Rattle.gu_read.proofs.Runs.{entry_whole, entry_many, entry_fails}
-use Rattle.gu_read.proofs.entries.read_func.Goals as goal
+use Rattle.gu_read.proofs.funcs.read_func.Goals as goal
 
 pub returns-in_err-entry-clause-value : goal.returns-in_err-entry-clause-value
 returns-in_err-entry-clause-value c =

@@ -3,7 +3,7 @@ use Rattle.std.proofs.lemmas.List.{drop_more}
 use Rattle.std.proofs.lemmas.Result.{err_from_is_err_and}
 use Rattle.gu_syntax.specs.Reading.{entries_at}
 use Rattle.gu_read.proofs.Runs.{runs_begin, runs_on, runs_fail}
-use Rattle.gu_read.proofs.entries.read_run.Goals as goal
+use Rattle.gu_read.proofs.funcs.read_run.Goals as goal
 
 pub entries-init : goal.entries-init
 entries-init c = record { runs = rw c.in_ok-funcs.ensures (runs_begin c.args.tys.now c.args.bytes.now); inside = omega arith }
