@@ -37,7 +37,8 @@ pub fn read_entries<'a>(
 }
 
 /// The entries of these types, one behind another, shared by as many threads as there are processors.
-/// Meanwhile room is made for as many functions as there are types.
+/// Meanwhile room is made for as many functions as there are types, but for no more than the bytes can
+/// have entries.
 fn read_shared<'a>(
     rt: &(impl Threads + Sync),
     alloc: Global,
@@ -51,6 +52,7 @@ fn read_shared<'a>(
 {
     let entries = Entries { alloc, tys, bytes };
     let count = tys.len();
+    let most = count.min(bytes.len() / ENTRY_LEAST);
     let (room, parts) = do_parts(
         rt,
         alloc,
@@ -59,7 +61,7 @@ fn read_shared<'a>(
         count,
         || -> Result<WeighedFuncs, AllocError>
             ensures { IfOk result (λ room. room ≡ []) }
-        { WeighedFuncs::with_touched_room(alloc, count) },
+        { WeighedFuncs::with_touched_room(alloc, most) },
     );
     join_parts(&entries, room?, parts?)
 }
