@@ -18,6 +18,9 @@ use rayon::current_num_threads;
 use std::alloc::{AllocError, Global};
 use std::thread::Threads;
 
+/// How many bytes an entry has at least: its size, the number of its runs of locals, and the end.
+const ENTRY_LEAST: usize = 3;
+
 /// The entries of these types, one behind another, at the front of the bytes. Where they are more than
 /// places can tell apart, they are read one by one.
 pub fn read_entries<'a>(
