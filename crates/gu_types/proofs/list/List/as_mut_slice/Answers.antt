@@ -1,4 +1,4 @@
-use Rattle.std.proofs.Common.{rules, ◌≡◌, refl, ap, take, ◌++◌, drop, length, sym, ◌∙◌, List}
+use Rattle.std.proofs.Common.{refl, ◌∙◌}
 use Rattle.gu_types.proofs.list.List.as_mut_slice.Goals as goal
 
 pub returns : goal.returns
