@@ -5,7 +5,9 @@ ghost use Rattle.gu_contents.specs.Belongs.{Belongs, IsListed, IsShallow};
 
 use crate::*;
 use gu_rec::intern;
-use gu_types::{Abs, Comp, HeapType, List, RecGroup, RefType, Storage, SubType, TypeList, ValType};
+use gu_types::{
+    Abs, Comp, HeapType, List, RecGroup, RefType, ShortList, Storage, SubType, TypeList, ValType,
+};
 use std::alloc::{AllocError, Global};
 use std::process::Abort;
 use std::test::Fail;
@@ -22,11 +24,11 @@ fn structure(alloc: Global, supers: &[u32]) -> Result<RecGroup, AllocError>
 {
     let ty = SubType {
         is_final: false,
-        supers: List::from_vec(Vec::from_slice(alloc, supers)?),
-        comp: Comp::Struct(List::new(alloc)),
+        supers: ShortList::from_vec(Vec::from_slice(alloc, supers)?),
+        comp: Comp::Struct(ShortList::new(alloc)),
     };
     Ok(RecGroup {
-        types: List::from_vec(vec![in alloc; ty]?),
+        types: ShortList::one(alloc, ty),
     })
 }
 

@@ -5,7 +5,7 @@ ghost use Rattle.gu_types.specs.Depth.{types_of};
 use crate::Numbering;
 use gu_contents::Facts;
 use gu_rec::intern;
-use gu_types::{Comp, FieldType, List, RecGroup, Storage, SubType, TypeList, ValType};
+use gu_types::{Comp, FieldType, List, RecGroup, ShortList, Storage, SubType, TypeList, ValType};
 use std::alloc::{AllocError, Global};
 use std::test::Fail;
 
@@ -15,11 +15,11 @@ fn alone(alloc: Global, comp: Comp) -> Result<RecGroup, AllocError>
 {
     let ty = SubType {
         is_final: true,
-        supers: List::new(alloc),
+        supers: ShortList::new(alloc),
         comp,
     };
     Ok(RecGroup {
-        types: List::from_vec(vec![in alloc; ty]?),
+        types: ShortList::one(alloc, ty),
     })
 }
 
@@ -33,7 +33,7 @@ fn pair(alloc: Global) -> Result<Comp, AllocError> {
         storage: Storage::I8,
         mutable: true,
     };
-    Ok(Comp::Struct(List::from_vec(vec![in alloc; number, byte]?)))
+    Ok(Comp::Struct(ShortList::from_vec(vec![in alloc; number, byte]?)))
 }
 
 /// The function type of two parameters and one result.

@@ -8,7 +8,7 @@ use crate::weighed::WeighedFuncs;
 use gu_read_code::{Entry, code_entry_on};
 use gu_read_parts::Stop;
 use gu_syntax::{Body, Func, Instr};
-use gu_types::{List, ValType};
+use gu_types::{List, ShortList, ValType};
 use std::alloc::Global;
 
 /// The entries of these types, one behind another, read one by one. What one leaves of the room that
@@ -47,7 +47,7 @@ fn read_func<'a>(
     match entry {
         Entry::Whole { locals, body } => Ok((Func { ty, locals, body }, rest)),
         Entry::TooMany => {
-            let mut locals = List::new(alloc);
+            let mut locals = ShortList::new(alloc);
             locals.push((u32::MAX, ValType::I32))?;
             let code = List::new(alloc);
             let body = Body { code };

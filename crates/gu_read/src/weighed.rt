@@ -4,7 +4,7 @@ ghost use Rattle.gu_read.specs.Limits.{locals_of};
 ghost use Rattle.gu_read.specs.Rows.{capped, weight, weight_in};
 
 use gu_syntax::{Body, Func, Module};
-use gu_types::List;
+use gu_types::{List, ShortList};
 use std::alloc::{AllocError, Global};
 use std::marker::Model;
 
@@ -61,7 +61,7 @@ impl WeighedFuncs {
         let mut funcs = Vec::with_capacity(alloc, room)?;
         'touched: for _ in 0..room {
             let code = List::new(alloc);
-            let locals = List::new(alloc);
+            let locals = ShortList::new(alloc);
             let body = Body { code };
             funcs.push(Func {
                 ty: 0,

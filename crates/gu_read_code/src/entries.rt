@@ -12,7 +12,7 @@ use crate::locals::read_locals;
 use gu_bytes::Cursor;
 use gu_read_parts::{ReadErr, Stop, Which, close, read_content, refusal_ahead};
 use gu_syntax::{Body, Instr};
-use gu_types::{List, ValType};
+use gu_types::{ShortList, ValType};
 use std::alloc::Global;
 
 /// What a code entry holds.
@@ -22,7 +22,7 @@ pub enum Entry {
     /// alike, and a body. The locals are fewer than 2^32.
     Whole {
         /// How many locals, and their type.
-        locals: List<(u32, ValType)>,
+        locals: ShortList<(u32, ValType)>,
         /// The instructions.
         body: Body,
     },
@@ -89,7 +89,7 @@ fn read_inside<'a>(
 pub fn read_entry(
     alloc: Global,
     at: &mut Cursor<'_>,
-) -> Result<(List<(u32, ValType)>, Body), ReadErr>
+) -> Result<(ShortList<(u32, ValType)>, Body), ReadErr>
     ensures ok { IfOk result (λ x. PassesEntry x.0 x.1 at.old at.new) }
     ensures refused { IfErr result (λ err. RefusesEntry at.old err) }
     ensures complete { IfErr result (λ err. HasEntry at.old.rest → err ≡ NoMemory) }

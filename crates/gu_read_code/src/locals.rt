@@ -7,7 +7,7 @@ ghost use Rattle.gu_read_code.specs.Entries.{held_runs, total};
 ghost use Rattle.gu_read_code.specs.Runs.{added, behind_runs};
 
 use gu_read_parts::{Stop, read_u32, read_val};
-use gu_types::{List, ValType};
+use gu_types::{ShortList, ValType};
 use std::alloc::{AllocError, Global};
 
 /// How many locals a tree can count.
@@ -17,7 +17,7 @@ const MOST: u64 = 0xFFFF_FFFF;
 const FEW: u32 = 4;
 
 /// Runs of locals.
-type Runs = List<(u32, ValType)>;
+type Runs = ShortList<(u32, ValType)>;
 
 /// The locals of a function in runs, of which none is empty and no two side by side have types that
 /// are spelled alike; or `None` where there are 2^32 locals or more.
@@ -40,11 +40,15 @@ pub fn read_locals(alloc: Global, bytes: &[u8]) -> Result<(Option<Runs>, &[u8]),
     Ok((Some(merged), rest))
 }
 
-/// No runs, with room for as many as are said to follow, if they are few.
+/// No runs, with room for as many as are said to follow, if they are few. A single one needs none.
 fn no_runs(alloc: Global, count: u32) -> Result<Runs, AllocError>
     ensures { IfOk result (λ runs. runs ≡ []) }
 {
-    Ok(List::from_vec(Vec::with_capacity(alloc, count.min(FEW) as usize)?))
+    if count < 2 {
+        return Ok(ShortList::new(alloc));
+    }
+    let room = count.min(FEW) as usize;
+    Ok(ShortList::from_vec(Vec::with_capacity(alloc, room)?))
 }
 
 /// A run: how many locals, and their type.

@@ -18,6 +18,6 @@ mod values;
 pub use answer::{ReadErr, Which, refusal, refusal_ahead};
 pub use bytes::{close, pass, read_bytes, read_content, read_name, read_text};
 pub use numbers::{read_s32, read_s64, read_u32, read_u32_as};
-pub use part::{Index, Part, read_items, read_sized, read_vector};
+pub use part::{Index, Part, read_items, read_short_vector, read_sized, read_vector};
 pub use stop::{Asked, Stop};
 pub use values::{Values, read_heap, read_limits, read_mutable, read_ref, read_val};

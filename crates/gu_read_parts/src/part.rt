@@ -6,7 +6,7 @@ ghost use Rattle.gu_read_parts.specs.Gives.{Gives, left_of};
 use crate::bytes::{close, read_content};
 use crate::numbers::read_u32;
 use crate::stop::Stop;
-use gu_types::List;
+use gu_types::{List, ShortList};
 use std::alloc::{AllocError, Global};
 
 /// How many items are made room for before they are read, at most.
@@ -76,6 +76,23 @@ pub fn read_vector<P: Part>(alloc: Global, bytes: &[u8]) -> Result<(List<P::Valu
 {
     let (count, rest) = read_u32(bytes)?;
     read_items::<P>(alloc, count, rest)
+}
+
+/// A vector that takes no memory for one item (5.1.3 Lists).
+pub fn read_short_vector<P: Part>(
+    alloc: Global,
+    bytes: &[u8],
+) -> Result<(ShortList<P::Value>, &[u8]), Stop>
+    ensures value { Gives result (vector_at P.at bytes.now) }
+    ensures inside { left_of result ≤ length bytes.now }
+{
+    let (count, rest) = read_u32(bytes)?;
+    if count == 1 {
+        let (item, rest) = P::read(alloc, rest)?;
+        return Ok((ShortList::one(alloc, item), rest));
+    }
+    let (items, rest) = read_items::<P>(alloc, count, rest)?;
+    Ok((ShortList::from_vec(items.into_vec()), rest))
 }
 
 /// How many bytes follow, and a content that fills them (5.5.2 Sections).

@@ -6,8 +6,8 @@ ghost use Rattle.gu_read_types.specs.ReadTypes.{PassesTypes, RefusesTypes};
 
 use crate::types::{SubTypes, read_sub};
 use gu_bytes::Cursor;
-use gu_read_parts::{Part, ReadErr, Stop, read_vector, refusal_ahead};
-use gu_types::{List, RecGroup, TypeList};
+use gu_read_parts::{Part, ReadErr, Stop, read_short_vector, read_vector, refusal_ahead};
+use gu_types::{RecGroup, ShortList, TypeList};
 use std::alloc::Global;
 
 /// A recursion group, which may be empty, as a part of the grammar.
@@ -34,13 +34,12 @@ fn read_group(alloc: Global, bytes: &[u8]) -> Result<(RecGroup, &[u8]), Stop>
 {
     match bytes.split_first() {
         Some((0x4E, rest)) => {
-            let (types, rest) = read_vector::<SubTypes>(alloc, rest)?;
+            let (types, rest) = read_short_vector::<SubTypes>(alloc, rest)?;
             Ok((RecGroup { types }, rest))
         }
         _ => {
             let (ty, rest) = read_sub(alloc, bytes)?;
-            let mut types = List::from_vec(Vec::with_capacity(alloc, 1)?);
-            types.push(ty)?;
+            let types = ShortList::one(alloc, ty);
             Ok((RecGroup { types }, rest))
         }
     }

@@ -7,9 +7,10 @@ ghost use Rattle.gu_types.specs.declared.types.Storage.TheVariants as S;
 ghost use Rattle.gu_types.specs.declared.types.ValType.TheVariants as V;
 
 use gu_read_parts::{
-    Asked, Index, Part, Stop, Values, read_heap, read_mutable, read_val, read_vector,
+    Asked, Index, Part, Stop, Values, read_heap, read_mutable, read_short_vector, read_val,
+    read_vector,
 };
-use gu_types::{Comp, FieldType, List, RefType, Storage, SubType, ValType};
+use gu_types::{Comp, FieldType, RefType, ShortList, Storage, SubType, ValType};
 use std::alloc::Global;
 
 /// A storage type: a value type, or a packed one (core specification 3.0, 5.3, composite types).
@@ -80,7 +81,7 @@ fn read_comp(alloc: Global, bytes: &[u8]) -> Result<(Comp, &[u8]), Stop>
             Ok((Comp::Func { params, results }, rest))
         }
         Some((0x5F, rest)) => {
-            let (fields, rest) = read_vector::<Fields>(alloc, rest)?;
+            let (fields, rest) = read_short_vector::<Fields>(alloc, rest)?;
             Ok((Comp::Struct(fields), rest))
         }
         Some((0x5E, rest)) => {
@@ -98,7 +99,7 @@ fn read_declared(alloc: Global, is_final: bool, bytes: &[u8]) -> Result<(SubType
     ensures value { Gives result (declared_at is_final bytes.now) }
     ensures inside { left_of result ≤ length bytes.now }
 {
-    let (supers, rest) = read_vector::<Index>(alloc, bytes)?;
+    let (supers, rest) = read_short_vector::<Index>(alloc, bytes)?;
     let (comp, rest) = read_comp(alloc, rest)?;
     let ty = SubType {
         is_final,
@@ -119,7 +120,7 @@ pub fn read_sub(alloc: Global, bytes: &[u8]) -> Result<(SubType, &[u8]), Stop>
         Some((0x4F, rest)) => read_declared(alloc, true, rest),
         _ => {
             let (comp, rest) = read_comp(alloc, bytes)?;
-            let supers = List::new(alloc);
+            let supers = ShortList::new(alloc);
             let is_final = true;
             Ok((
                 SubType {

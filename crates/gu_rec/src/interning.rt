@@ -34,7 +34,8 @@ pub fn intern(alloc: Global, list: &TypeList) -> Result<Types<'_>, RecErr>
 mod tests {
     use super::*;
     use gu_types::{
-        Abs, Comp, FieldType, HeapType, List, RecGroup, RefType, Storage, SubType, ValType,
+        Abs, Comp, FieldType, HeapType, List, RecGroup, RefType, ShortList, Storage, SubType,
+        ValType,
     };
     use std::alloc::AllocError;
     use std::test::Fail;
@@ -47,8 +48,8 @@ mod tests {
     ) -> Result<SubType, AllocError> {
         Ok(SubType {
             is_final: true,
-            supers: List::from_vec(Vec::from_slice(alloc, supers)?),
-            comp: Comp::Struct(List::from_vec(Vec::from_slice(alloc, fields)?)),
+            supers: ShortList::from_vec(Vec::from_slice(alloc, supers)?),
+            comp: Comp::Struct(ShortList::from_vec(Vec::from_slice(alloc, fields)?)),
         })
     }
 
@@ -59,7 +60,7 @@ mod tests {
         let first = structure(alloc, &[], &[])?;
         let second = structure(alloc, &[], &[])?;
         Ok(RecGroup {
-            types: List::from_vec(vec![in alloc; first, second]?),
+            types: ShortList::from_vec(vec![in alloc; first, second]?),
         })
     }
 
@@ -69,7 +70,7 @@ mod tests {
     {
         let first = two_alike(alloc)?;
         let alone = RecGroup {
-            types: List::from_vec(vec![in alloc; structure(alloc, &[], &[])?]?),
+            types: ShortList::one(alloc, structure(alloc, &[], &[])?),
         };
         let last = two_alike(alloc)?;
         Ok(TypeList {
@@ -160,7 +161,7 @@ mod tests {
         let below = structure(alloc, supers, &[])?;
         let wide = structure(alloc, &[], &[field])?;
         let group = RecGroup {
-            types: List::from_vec(vec![in alloc; plain, below, wide]?),
+            types: ShortList::from_vec(vec![in alloc; plain, below, wide]?),
         };
         Ok(TypeList {
             groups: List::from_vec(vec![in alloc; group]?),

@@ -6,7 +6,7 @@ ghost use Rattle.gu_solve_main.specs.Layers.{layer, IsHigher};
 use anyhow::ensure;
 use gu_contents::Facts;
 use gu_rec::intern;
-use gu_types::{Comp, FieldType, List, RecGroup, Storage, SubType, TypeList, ValType};
+use gu_types::{Comp, FieldType, List, RecGroup, ShortList, Storage, SubType, TypeList, ValType};
 use std::alloc::{AllocError, Global};
 
 /// How many classes stand below each other, from one below the first class on.
@@ -48,16 +48,16 @@ pub fn has_below(index: u32, count: u32) -> bool {
 }
 
 /// The class with an index.
-fn class(alloc: Global, index: u32) -> Result<SubType, AllocError> {
+fn class(alloc: Global, index: u32) -> SubType {
     let supers = match above(index) {
-        None => Vec::new(alloc),
-        Some(above) => vec![in alloc; above]?,
+        None => ShortList::new(alloc),
+        Some(above) => ShortList::one(alloc, above),
     };
-    Ok(SubType {
+    SubType {
         is_final: false,
-        supers: List::from_vec(supers),
-        comp: Comp::Struct(List::from_vec(vec![in alloc; FIELD]?)),
-    })
+        supers,
+        comp: Comp::Struct(ShortList::one(alloc, FIELD)),
+    }
 }
 
 /// Whether the class with an index stands in a higher layer than its supertype.
@@ -87,7 +87,7 @@ fn are_layered(classes: &[SubType]) -> bool
 fn all_classes(alloc: Global, count: u32) -> Result<Vec<SubType>, AllocError> {
     let mut all = Vec::new(alloc);
     for index in 0..count {
-        all.push(class(alloc, index)?)?;
+        all.push(class(alloc, index))?;
     }
     Ok(all)
 }
@@ -100,7 +100,7 @@ pub fn classes_of(alloc: Global, count: u32) -> anyhow::Result<TypeList>
     let layered = are_layered(classes.as_slice());
     ensure!(layered, "a class is too deep");
     let group = RecGroup {
-        types: List::from_vec(classes),
+        types: ShortList::from_vec(classes),
     };
     Ok(TypeList {
         groups: List::from_vec(vec![in alloc; group]?),

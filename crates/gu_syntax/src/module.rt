@@ -1,6 +1,6 @@
 //! Modules as trees: each field is a section of the binary format, in its order.
 use crate::instr::Body;
-use gu_types::{List, RefType, TypeList, ValType};
+use gu_types::{List, RefType, ShortList, TypeList, ValType};
 
 /// The sizes that a table or a memory may have (core specification 3.0, 2.3, Limits).
 #[derive(Clone, Copy, Debug, PartialEq, Eq)]
@@ -44,7 +44,7 @@ pub struct Func {
     pub ty: u32,
     /// Its locals behind its parameters: how many, and of which type, run by run. In a shaped
     /// module no run is empty, and no two runs side by side have one type.
-    pub locals: List<(u32, ValType)>,
+    pub locals: ShortList<(u32, ValType)>,
     /// What it does.
     pub body: Body,
 }

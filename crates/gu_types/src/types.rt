@@ -1,5 +1,6 @@
 //! Types as trees. Indices count the types of a module in the order of its recursion groups.
 use crate::list::List;
+use crate::short::ShortList;
 
 /// An abstract heap type (core specification 3.0, 2.3, Heap Types).
 #[derive(Clone, Copy, Debug, PartialEq, Eq, Hash)]
@@ -90,7 +91,7 @@ pub enum Comp {
         results: List<ValType>,
     },
     /// A structure type, by its fields in order.
-    Struct(List<FieldType>),
+    Struct(ShortList<FieldType>),
     /// An array type, by its elements.
     Array(FieldType),
 }
@@ -102,7 +103,7 @@ pub struct SubType {
     /// Whether no type may declare it as its supertype.
     pub is_final: bool,
     /// The indices of the supertypes that it declares, at most one in a valid module.
-    pub supers: List<u32>,
+    pub supers: ShortList<u32>,
     /// What it is.
     pub comp: Comp,
 }
@@ -111,7 +112,7 @@ pub struct SubType {
 #[derive(Debug, Drop, Clone, PartialEq, Eq, Hash)]
 pub struct RecGroup {
     /// Its types in order.
-    pub types: List<SubType>,
+    pub types: ShortList<SubType>,
 }
 
 /// The types of a module, group by group (2.5, Types).

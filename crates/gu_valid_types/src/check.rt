@@ -85,7 +85,9 @@ pub fn check_types(alloc: Global, list: &TypeList) -> Result<Types<'_>, TypesErr
 #[tactic(auto, using(gu_rec::proofs::Lines::few_are_shallow))]
 mod tests {
     use super::*;
-    use gu_types::{Comp, FieldType, HeapType, List, RecGroup, RefType, Storage, ValType};
+    use gu_types::{
+        Comp, FieldType, HeapType, List, RecGroup, RefType, ShortList, Storage, ValType,
+    };
     use std::test::Fail;
 
     /// A structure with the fields given, which may declare a supertype.
@@ -96,8 +98,8 @@ mod tests {
     ) -> Result<SubType, AllocError> {
         Ok(SubType {
             is_final: true,
-            supers: List::from_vec(Vec::from_slice(alloc, supers)?),
-            comp: Comp::Struct(List::from_vec(Vec::from_slice(alloc, fields)?)),
+            supers: ShortList::from_vec(Vec::from_slice(alloc, supers)?),
+            comp: Comp::Struct(ShortList::from_vec(Vec::from_slice(alloc, fields)?)),
         })
     }
 
@@ -113,7 +115,7 @@ mod tests {
         let below = structure(alloc, supers, &[])?;
         let wide = structure(alloc, &[], &[field])?;
         let group = RecGroup {
-            types: List::from_vec(vec![in alloc; plain, below, wide]?),
+            types: ShortList::from_vec(vec![in alloc; plain, below, wide]?),
         };
         Ok(TypeList {
             groups: List::from_vec(vec![in alloc; group]?),

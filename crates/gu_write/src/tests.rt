@@ -3,7 +3,7 @@ ghost use Rattle.gu_syntax.specs.Shape.{IsShaped, IsShapedFunc, IsShapedGroup, I
 
 use super::*;
 use gu_syntax::{Body, Export, Func, Instr, Kind, Module, Seg, SegMode};
-use gu_types::{Comp, List, RecGroup, SubType, TypeList, ValType};
+use gu_types::{Comp, List, RecGroup, ShortList, SubType, TypeList, ValType};
 use std::alloc::{AllocError, Global};
 use std::test::Fail;
 
@@ -49,13 +49,13 @@ fn group(alloc: Global) -> Result<RecGroup, AllocError>
 {
     let params = List::new(alloc);
     let results = one(alloc, ValType::I32)?;
-    let supers = List::new(alloc);
+    let supers = ShortList::new(alloc);
     let ty = SubType {
         is_final: true,
         supers,
         comp: Comp::Func { params, results },
     };
-    let types = one(alloc, ty)?;
+    let types = ShortList::one(alloc, ty);
     Ok(RecGroup { types })
 }
 
@@ -63,7 +63,7 @@ fn group(alloc: Global) -> Result<RecGroup, AllocError>
 fn zero(alloc: Global) -> Result<Func, AllocError>
     ensures { IfOk result IsShapedFunc }
 {
-    let locals = List::new(alloc);
+    let locals = ShortList::new(alloc);
     let code = one(alloc, Instr::I32Const(0))?;
     let body = body(code);
     Ok(Func {

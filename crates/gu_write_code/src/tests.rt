@@ -1,11 +1,12 @@
 ghost use Rattle.std.specs.Prelude.{◌≡◌, [], ◌∷◌, IfOk};
 ghost use Rattle.gu_syntax.specs.Shape.{IsShapedCode, IsShapedFunc};
 ghost use Rattle.gu_syntax.specs.Code.{code_of};
+ghost use Rattle.gu_types.specs.declared.types.ValType.TheVariants.{I32, I64};
 
 use super::*;
 use gu_boxed::Boxed;
 use gu_syntax::{BlockType, Body, Choice, Func, Instr};
-use gu_types::{List, ValType};
+use gu_types::{List, ShortList, ValType};
 use std::alloc::{AllocError, Global};
 use std::test::Fail;
 
@@ -26,6 +27,15 @@ fn two<T: Drop>(alloc: Global, first: T, second: T) -> Result<List<T>, AllocErro
     Ok(items)
 }
 
+/// Two runs of locals.
+fn runs(alloc: Global) -> Result<ShortList<(u32, ValType)>, AllocError>
+    ensures { IfOk result (λ runs. runs ≡ (2, I32) ∷ (1, I64) ∷ []) }
+{
+    let mut runs = ShortList::one(alloc, (2, ValType::I32));
+    runs.push((1, ValType::I64))?;
+    Ok(runs)
+}
+
 fn body(code: List<Instr>) -> Body
     ensures { result.code ≡ code }
 {
@@ -37,7 +47,7 @@ fn choice(alloc: Global, no: List<Instr>) -> Result<Func, AllocError>
     requires { IsShapedCode (code_of no) }
     ensures { IfOk result IsShapedFunc }
 {
-    let locals = two(alloc, (2, ValType::I32), (1, ValType::I64))?;
+    let locals = runs(alloc)?;
     let yes = body(one(alloc, Instr::Nop)?);
     let no = body(no);
     let ty = BlockType::Empty;
