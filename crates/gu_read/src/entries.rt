@@ -10,7 +10,7 @@ ghost use Rattle.gu_read.specs.Standing.{AllStandFor, GivesBy};
 ghost use Rattle.gu_read.specs.Shares.{Ends, Makes};
 
 use crate::funcs::read_run;
-use crate::shares::{BATCH, Entries, PLACES, rest_from, tys_from};
+use crate::shares::{BATCH, Entries, PLACES, keep_large, rest_from, tys_from};
 use crate::weighed::WeighedFuncs;
 use gu_parallel::{Part, do_parts};
 use gu_read_parts::Stop;
@@ -53,6 +53,7 @@ fn read_shared<'a>(
     ensures value { GivesBy AllStandFor result (entries_at 1000 tys.now bytes.now) }
     ensures inside { left_of result ≤ length bytes.now }
 {
+    keep_large(alloc);
     let entries = Entries { alloc, tys, bytes };
     let count = tys.len();
     let most = count.min(bytes.len() / ENTRY_LEAST);

@@ -18,6 +18,10 @@ pub const BATCH: usize = 49_152;
 /// are taken from.
 const ROOM: usize = 1_048_576;
 
+/// How many bytes of memory the C library maps by themselves at most, when it has learned to: 32 MiB, but
+/// for what it adds to a block.
+const LARGE: usize = 33_000_000;
+
 /// A place is the number of an entry, so many times, and how many bytes are before the entry.
 pub const PLACES: u64 = 4_294_967_296;
 
@@ -47,7 +51,7 @@ impl Work for Entries<'_> {
     }
 
     fn make(&self, start: u64, end: u64) -> Result<WeighedFuncs, Stop> {
-        make_room(self.alloc);
+        make_room(self.alloc, ROOM);
         read_between(self.alloc, self.tys, self.bytes, start, end)
     }
 }
@@ -127,10 +131,17 @@ fn read_between(
     Ok(funcs)
 }
 
-/// Asks for some memory and gives it back, so that what is asked for next is there. Where it is not to
-/// be had, nothing is different. If room were not made at once, a thread would ask the system for each
-/// page that functions take, where threads wait for each other.
-fn make_room(alloc: Global) {
-    let room: Result<Vec<u8>, AllocError> = Vec::with_capacity(alloc, ROOM);
+/// Asks for so many bytes of memory and gives them back, so that what is asked for next is there. Where
+/// they are not to be had, nothing is different. If room were not made at once, a thread would ask the
+/// system for each page that functions take, where threads wait for each other.
+fn make_room(alloc: Global, bytes: usize) {
+    let room: Result<Vec<u8>, AllocError> = Vec::with_capacity(alloc, bytes);
     drop(room);
+}
+
+/// Has the C library keep the memory of large blocks when they are given back, which it does once it was
+/// given back the largest that it maps by itself. What a module took is then there for the next one, and
+/// threads need not ask the system for it again.
+pub fn keep_large(alloc: Global) {
+    make_room(alloc, LARGE);
 }
