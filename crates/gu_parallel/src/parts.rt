@@ -10,6 +10,10 @@ use std::alloc::{AllocError, Global};
 use std::sync::atomic::{AtomicU64, Ordering};
 use std::thread::Threads;
 
+/// How many threads are started for each processor but the one that this thread is on. With one for each
+/// the system may leave two on one processor, and another at rest, for as long as they work.
+const THREADS: usize = 2;
+
 /// A part of some work, and what was made of it.
 #[derive(Debug, Drop)]
 pub struct Part<X> {
@@ -21,10 +25,10 @@ pub struct Part<X> {
     pub made: X,
 }
 
-/// What `beside` gives, and parts of the work, one behind another from place 0 on. As many threads share
-/// the parts as there are processors, and this one is among them once `beside` has ended; where a thread
-/// cannot be started, its turns are taken in this one. No part starts at `until` or behind it, and no
-/// thread takes more than `most` turns.
+/// What `beside` gives, and parts of the work, one behind another from place 0 on. Threads share the
+/// parts, two for each processor but this one's, and this one is among them once `beside` has ended; where
+/// a thread cannot be started, its turns are taken in this one. No part starts at `until` or behind it. No
+/// more than `most` threads are started, and none takes more than `most` turns.
 ///
 /// As a rule the parts go as far as `until`, but no clause says so, since none knows what threads see of
 /// each other: a caller looks where the last part ends, and makes what is missing. `AllocError` only
@@ -46,7 +50,9 @@ where
 {
     let front = AtomicU64::new(0);
     let front = &front;
-    let others = current_num_threads(rt) - 1;
+    let others = (current_num_threads(rt) - 1)
+        .saturating_mul(THREADS)
+        .min(most);
     if others == 0 {
         let answer = beside();
         let own = take_parts(alloc, work, front, until, most);

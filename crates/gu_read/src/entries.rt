@@ -39,9 +39,9 @@ pub fn read_entries<'a>(
     read_shared(rt, alloc, tys, bytes)
 }
 
-/// The entries of these types, one behind another, shared by as many threads as there are processors.
-/// Meanwhile room is made for as many functions as there are types, but for no more than the bytes can
-/// have entries.
+/// The entries of these types, one behind another, shared by threads, of which there are no more than
+/// batches. Meanwhile room is made for as many functions as there are types, but for no more than the
+/// bytes can have entries.
 fn read_shared<'a>(
     rt: &(impl Threads + Sync),
     alloc: Global,
@@ -57,12 +57,13 @@ fn read_shared<'a>(
     let entries = Entries { alloc, tys, bytes };
     let count = tys.len();
     let most = count.min(bytes.len() / ENTRY_LEAST);
+    let batches = bytes.len() / BATCH + 1;
     let (room, parts) = do_parts(
         rt,
         alloc,
         &entries,
         count as u64 * PLACES,
-        count,
+        batches,
         || -> Result<WeighedFuncs, AllocError>
             ensures { IfOk result (λ room. room ≡ []) }
         { WeighedFuncs::with_touched_room(alloc, most) },

@@ -35,9 +35,9 @@ const HEADER: [u8; 8] = [0x00, 0x61, 0x73, 0x6D, 0x01, 0x00, 0x00, 0x00];
 const FUNC_ROOM: usize = 32;
 
 /// The one least text of a module, at most 268,435,456 bytes: it spells the module and no other (core
-/// specification 3.0, 5.5.17 Modules). As many threads as there are processors share its code, where that
-/// is large: this one too, once it has written what is before the code. What none of them takes of the
-/// code is written in this one at the end.
+/// specification 3.0, 5.5.17 Modules). Threads share its code, where that is large, two for each
+/// processor but one: this one too, once it has written what is before the code. What none of them takes
+/// of the code is written in this one at the end.
 ///
 /// `TooLong` exactly where the text has more than 268,435,456 bytes.
 pub fn write_module(
