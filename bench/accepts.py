@@ -24,6 +24,7 @@ KINDS = {
     "one huge function": modules.one_huge_function,
     "many blocks": modules.many_blocks,
     "deep nesting": modules.deep_nesting,
+    "nested switch": modules.nested_switch,
     "dead code": modules.dead_code,
     "data segments": modules.data_segments,
 }

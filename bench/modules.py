@@ -84,8 +84,19 @@ def one_huge_function(size):
 
 
 def deep_nesting(size):
-    """Functions with 999 blocks inside each other."""
+    """Functions with 999 blocks inside each other and nothing else: three bytes a block."""
     body = b"\x02\x40" * 999 + END * 999 + LOCAL
+    return numbers_module([body] * max(1, size // (len(body) + 8)))
+
+
+def nested_switch(size):
+    """Functions with a switch of 998 cases, as compilers write one: a block for each case, all inside
+    each other and inside one for the end, and behind each its case's code, which leaves the switch.
+    """
+    cases = 998
+    table = LOCAL + b"\x0e" + vector([unsigned(case) for case in range(cases)]) + unsigned(cases)
+    code = [STEP + b"\x0c" + unsigned(cases - 1 - case) for case in range(cases)]
+    body = b"\x02\x40" * (cases + 1) + table + END + END.join(code) + END + LOCAL
     return numbers_module([body] * max(1, size // (len(body) + 8)))
 
 
@@ -202,6 +213,7 @@ KINDS = {
     "object code": object_code,
     "many blocks": many_blocks,
     "deep nesting": deep_nesting,
+    "nested switch": nested_switch,
     "types in one group": types_of_size(types_in_one_group),
     "types in groups of one": types_of_size(types_in_groups_of_one),
     "data segments": data_segments,
